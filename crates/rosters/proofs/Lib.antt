@@ -1,0 +1,2 @@
+pub mod Lineups
+pub mod Costs

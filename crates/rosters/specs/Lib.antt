@@ -1,0 +1,4 @@
+pub mod Refusals
+pub mod Applications
+pub mod Rosters
+pub mod Stamps

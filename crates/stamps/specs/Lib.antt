@@ -1,0 +1,5 @@
+pub mod Rows
+pub mod Tables
+pub mod Steps
+pub mod Known
+pub mod View
