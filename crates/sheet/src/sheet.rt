@@ -7,6 +7,7 @@ use rosters::application::Application;
 use rosters::cost::cost_of_sector;
 use rosters::refusal::Refusal;
 use rosters::roster::Roster;
+use share_law::bound_in_sectors;
 use std::error::AnyError;
 
 pub fn run(rt: &LibcRuntime) -> Result<(), AnyError> {
@@ -58,10 +59,16 @@ fn print_sheet(rt: &LibcRuntime, roster: &Roster) -> Result<(), AnyError> {
     println!(rt, "total weight T   {total}")?;
     println!(rt, "largest limit M  {most} sectors")?;
     println!(rt, "hold             {hold} ticks")?;
-    println!(rt, "app  weight  limit    share  cost of a sector")?;
+    println!(
+        rt,
+        "app  weight  limit    share  cost of a sector  falls behind by at most"
+    )?;
     for number in 0..roster.len() {
-        if let Some(application) = roster.application(number) {
-            print_application(rt, number, application, total)?;
+        if let (Some(application), Some(bound)) = (
+            roster.application(number),
+            bound_in_sectors(roster, number),
+        ) {
+            print_application(rt, number, application, total, bound)?;
         }
     }
     Ok(())
@@ -72,6 +79,7 @@ fn print_application(
     number: usize,
     application: Application,
     total: u32,
+    bound: u64,
 ) -> Result<(), AnyError> {
     let Application { weight, limit } = application;
     let part = share(weight, total);
@@ -80,7 +88,7 @@ fn print_application(
     if let Some(cost) = cost_of_sector(total, weight) {
         println!(
             rt,
-            "{number:>3}  {weight:>6}  {limit:>5}  {percent:>3}.{hundredths:02}%  {cost:>16}"
+            "{number:>3}  {weight:>6}  {limit:>5}  {percent:>3}.{hundredths:02}%  {cost:>16}  {bound:>14} sectors"
         )?;
     }
     Ok(())

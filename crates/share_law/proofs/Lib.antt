@@ -1,0 +1,10 @@
+pub mod Courses
+pub mod View
+pub mod Rows
+pub mod Moves
+pub mod Picks
+pub mod Start
+pub mod Stretches
+pub mod Law
+pub mod Bounds
+pub mod Example

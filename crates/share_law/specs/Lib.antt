@@ -1,0 +1,4 @@
+pub mod Courses
+pub mod Shares
+pub mod Bounds
+pub mod Example
