@@ -1,0 +1,4 @@
+pub mod Entries
+pub mod Sending
+pub mod Budgets
+pub mod Workloads

@@ -1,0 +1,3 @@
+pub mod Shown
+mod Standing
+pub mod Sweeps
