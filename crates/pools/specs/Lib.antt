@@ -4,4 +4,3 @@ pub mod View
 pub mod Choices
 pub mod Fits
 pub mod Budgets
-pub mod Figures

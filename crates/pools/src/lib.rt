@@ -3,7 +3,6 @@
 pub mod c_look;
 pub mod chooser;
 pub mod feedback;
-pub mod figures;
 pub mod first_come;
 mod line;
 mod lines;

@@ -36,6 +36,19 @@ pub struct Stamp {
 }
 
 impl Stamp {
+    /// The row of an application that does not exist.
+    pub const NONE: Stamp = Stamp {
+        weight: 0,
+        limit: 0,
+        cost: 0,
+        status: Status::Idle,
+        start: 0,
+        finish: 0,
+        budget: 0,
+        served: 0,
+        reached: 0,
+    };
+
     /// The row of an application of which nothing is known yet, in a roster of that total weight.
     pub(crate) fn new(total_weight: u32, application: Application) -> Stamp
         requires { ⌜ 0 < application .weight ⌝ }

@@ -32,4 +32,5 @@ pub record Current (t : Table) (k : ℕ) (s : Stamp) : Type 0 where
 pub record Finishing (t : Table) (virtual : ℕ) (k : ℕ) (s : Stamp) : Type 0 where
   pub is : finishing virtual t ≡ Some k
   pub inside : k < length (t .stamps)
+  pub small : k < 16
   pub reads : row t k ≡ s

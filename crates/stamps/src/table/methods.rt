@@ -2,6 +2,7 @@
 
 ghost use mathlib.Core.Path.{_≡_};
 ghost use mathlib.Core.Bool.{false};
+ghost use Prim.Native.Nat.{_<_};
 ghost use lib.ListN.{length};
 ghost use Rattle.std.specs.Options.{Cases};
 ghost use Rattle.std.specs.declared.option.Option.the-variants.{None};
@@ -9,6 +10,7 @@ ghost use Rattle.std.specs.shelf.Maps.{nth};
 ghost use Rattle.rosters.specs.Rosters.{line-up};
 ghost use Rattle.stamps.specs.Steps.{initial, can-allot, allotted, can-wake, woken, pick-time, finishing, pick-answer, picked, can-send, charged, can-requeue, requeued, can-rest, rested};
 ghost use Rattle.stamps.specs.Known.{Current, Finishing, Resting};
+ghost use Rattle.stamps.specs.Tables.{row};
 ghost use Rattle.stamps.specs.View.{table};
 use crate::queries::ByFinish;
 use crate::queries::ByFinishQuery;
@@ -44,6 +46,13 @@ impl StampTable {
         }
     }
 
+    /// How many applications there are.
+    pub fn len(&self) -> usize
+        ensures { λ r. ⌜ r ≡ length (table (now (self .entry)) .stamps) ⌝ }
+    {
+        self.stamps.len()
+    }
+
     /// The row of that application, if there is one.
     pub fn stamp(&self, application: usize) -> Option<Stamp>
         ensures { λ r. ⌜ r ≡ nth (table (now (self .entry)) .stamps) application ⌝ }
@@ -54,9 +63,20 @@ impl StampTable {
         Some(self.stamps[application])
     }
 
+    /// The row of that application; a row of zeros if there is none.
+    pub fn row(&self, application: usize) -> Stamp
+        ensures { λ r. ⌜ r ≡ row (table (now (self .entry))) application ⌝ }
+    {
+        if application >= self.stamps.len() {
+            return Stamp::NONE;
+        }
+        self.stamps[application]
+    }
+
     /// The application that is served, if one is.
     pub fn serving(&self) -> Option<usize>
-        ensures { λ r. ⌜ r ≡ table (now (self .entry)) .serving ⌝ }
+        ensures answer { λ r. ⌜ r ≡ table (now (self .entry)) .serving ⌝ }
+        ensures small { λ r. ⌜ Cases r (Unit {0}) (λ k. k < 16) ⌝ }
     {
         self.serving
     }
@@ -99,6 +119,7 @@ impl StampTable {
     /// have started by then the one of the least finish serves. Answers which, if any is queued.
     pub fn pick(&mut self) -> Option<usize>
         ensures answer { λ r. ⌜ r ≡ pick-answer (table (now (self .entry))) ⌝ }
+        ensures small { λ r. ⌜ Cases r (Unit {0}) (λ k. k < 16) ⌝ }
         ensures after { λ _. ⌜ table (now (self .exit)) ≡ picked (table (now (self .entry))) ⌝ }
     {
         if let Some(_) = self.serving {

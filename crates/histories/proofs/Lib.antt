@@ -1,0 +1,16 @@
+pub mod Requests
+pub mod Tables
+pub mod Courses
+pub mod Invariant
+pub mod Lines
+pub mod Moves
+pub mod First
+pub mod Arrival
+pub mod Completion
+pub mod Dispatch
+pub mod Entries
+pub mod Start
+pub mod Whole
+pub mod Kept
+pub mod Reachable
+pub mod Example

@@ -1,0 +1,4 @@
+pub mod History
+pub mod Promises
+pub mod Reachable
+pub mod Example

@@ -1,0 +1,4 @@
+pub mod Answers
+pub mod View
+pub mod Sealing
+pub mod Opening
