@@ -41,7 +41,7 @@ pub record Machine : Type 0 where
   -- H, how long a hold lasts
   pub hold : ℕ
 
--- the budget that a rule gives next: by the limit, the last budget, the sectors served of it, and why
+-- the budget that a rule gives next: by the limit, the budget that is over, how much of it was served, and why it ended
 abbrev pub Rule : Type 0
 Rule = ℕ → ℕ → ℕ → Reason → ℕ
 
