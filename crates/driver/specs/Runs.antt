@@ -4,6 +4,8 @@ use mathlib.Core.List.{List, [], _∷_}
 use Prim.Native.Nat.{ℕ, _+_, _^_, _≤_}
 use Rattle.std.specs.declared.option.Option.{Option}
 use Rattle.std.specs.declared.option.Option.the-variants.{None, Some}
+use Rattle.histories.specs.History.{Call, arrival, dispatch, completion, tick, History}
+use Rattle.histories.specs.Promises.{recorded}
 use Rattle.machine.specs.Calls.{arrival-refusal, arrived, dispatch-refusal, dispatched, dispatch-reply, completion-refusal, completed, tick-refusal, ticked}
 use Rattle.machine.specs.Machine.{Machine, Rule, Reply, sends, holds, nothing}
 use Rattle.machine.specs.Refusals.{number}
@@ -57,6 +59,24 @@ module _ (choice : Choice) (next : Rule) where
   abbrev pub outcomes-of : List Command → Machine → List Outcome
   outcomes-of [] m = []
   outcomes-of (c ∷ cs) m = outcome c m ∷ outcomes-of cs (acted c m)
+
+-- The calls that a script makes, with what they bring: a completion brings the token of the request in
+-- flight, and is no call where there is none.
+abbrev pub completes : Option Request → ℕ → List Call → List Call
+completes None time cs = cs
+completes (Some r) time cs = completion time r ∷ cs
+
+module _ (choice : Choice) (next : Rule) where
+  abbrev pub calls-of : List Command → Machine → List Call
+  calls-of [] m = []
+  calls-of (Arrival time a first size kind ∷ cs) m = arrival time a first size kind ∷ calls-of cs (acted choice next (Arrival time a first size kind) m)
+  calls-of (Dispatch time ∷ cs) m = dispatch time ∷ calls-of cs (acted choice next (Dispatch time) m)
+  calls-of (Completion time ∷ cs) m = completes (m .flight) time (calls-of cs (acted choice next (Completion time) m))
+  calls-of (Tick time ∷ cs) m = tick time ∷ calls-of cs (acted choice next (Tick time) m)
+
+  -- the history that a script makes
+  abbrev pub history : List Command → Machine → History
+  history cs m = recorded choice next m (calls-of cs m)
 
 -- what is in flight by the token that is held
 abbrev pub parts : Option Token → Option Request

@@ -4,9 +4,10 @@ ghost use mathlib.Core.Path.{_≡_};
 ghost use mathlib.Core.List.{_++_};
 ghost use Prim.Native.Nat.{_≤_, _^_, min};
 ghost use lib.ListN.{length, take, drop};
+ghost use Rattle.histories.specs.Promises.{Kept};
 ghost use Rattle.machine.specs.Machine.{beginning};
 ghost use Rattle.rosters.specs.Rosters.{line-up};
-ghost use Rattle.driver.specs.Runs.{Holding, none-held, outcomes-of};
+ghost use Rattle.driver.specs.Runs.{Holding, history, none-held, outcomes-of};
 use crate::command::Command;
 use crate::command::Outcome;
 use crate::turn::Turn;
@@ -21,7 +22,8 @@ use scheduler::scheduler::seal::seal;
 use scheduler::token::Token;
 
 /// Seals the roster and makes the calls of the script, as many as there is room for outcomes; notes what
-/// each came to, and answers how many that are. A token that is left at the end is completed.
+/// each came to, and answers how many that are. A token that is left at the end is completed. The promises
+/// hold of the history that the script makes.
 pub fn run<P: Pool + Drop, R: BudgetRule + Drop>(
     roster: Roster,
     pool: P,
@@ -31,6 +33,7 @@ pub fn run<P: Pool + Drop, R: BudgetRule + Drop>(
 ) -> usize
     ensures answer { λ r. ⌜ r ≡ min (length (now (commands .entry))) (length (now (outcomes .entry))) ⌝ }
     ensures noted { λ r. ⌜ now (outcomes .exit) ≡ outcomes-of (P·Pool .choice) (R·BudgetRule .«next_budget») (take r (now (commands .entry))) (beginning (R·BudgetRule .«first_budget») (line-up roster)) ++ drop r (now (outcomes .entry)) ⌝ }
+    ensures promises { λ r. ⌜ Kept (P·Pool .choice) (line-up roster) (history (P·Pool .choice) (R·BudgetRule .«next_budget») (take r (now (commands .entry))) (beginning (R·BudgetRule .«first_budget») (line-up roster))) ⌝ }
 {
     let count = commands.len().min(outcomes.len());
     let mut scheduler = seal(roster, pool, rule);
