@@ -1,0 +1,3 @@
+pub mod Chunks
+pub mod Judged
+pub mod Joins

@@ -1,0 +1,5 @@
+pub mod Contents
+pub mod Parts
+pub mod Tables
+pub mod Reading
+pub mod Writing

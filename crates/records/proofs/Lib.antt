@@ -1,0 +1,2 @@
+pub mod CodeTrips
+pub mod RecordTrips
