@@ -1,5 +1,7 @@
 //! The edges of a roster's ranges, by example.
 
+#![tactic(auto)]
+
 use rosters::roster::Roster;
 
 /// 0 if the application is accepted, and else the refusal's number.

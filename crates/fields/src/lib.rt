@@ -1,4 +1,6 @@
 //! Unsigned numbers in bytes, lowest byte first: read from a slice, and put into one.
 
+#![tactic(auto)]
+
 pub mod get;
 pub mod put;

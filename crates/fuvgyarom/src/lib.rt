@@ -1,6 +1,8 @@
 //! The replay, for programs in C. `rt staticlib fuvgyarom` makes the library, and `c/fuvgyarom.h` is its
 //! header.
 
+#![tactic(auto)]
+
 ghost use Rattle.std.specs.Prelude.{◌≡◌};
 ghost use Rattle.fuvgyarom.specs.Statuses.{Answered};
 ghost use Rattle.replays.specs.Replays.{FilePromises};

@@ -1,6 +1,8 @@
 //! What is promised of every history of a scheduler's calls: the definitions are in `specs/`, and the
 //! proof is in the contract of one function.
 
+#![tactic(auto)]
+
 ghost use Rattle.histories.specs.Promises.{AllPromises};
 ghost use Rattle.histories.specs.Reachable.{AllInBounds};
 ghost use Rattle.histories.specs.Example.{Replayed};

@@ -1,6 +1,8 @@
 //! Shows what a trace on standard input holds, or what is wrong with it. A second mode, `many`, serves
 //! for comparisons: it reads many files, and writes each again from its tables.
 
+#![tactic(auto)]
+
 use std::io::{BufWriter, Read, Write};
 use std::{env, io};
 

@@ -1,6 +1,8 @@
 //! The choosing rule: of the eligible elements the least by its key, of equals the one that stands
 //! first. One search serves requests by their sector and applications by their virtual times.
 
+#![tactic(auto)]
+
 ghost use Rattle.std.specs.Prelude.{◌≡◌, ◌<◌, Bool, length, IfSome, MatchOption};
 ghost use Rattle.std.specs.Cmp.{IsStrictWeakOrder};
 ghost use Rattle.least.specs.Choice.{FirstLeast, NoneEligible, place, Turn};

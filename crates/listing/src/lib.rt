@@ -1,4 +1,6 @@
 //! The lines of a listing, put into a buffer.
 
+#![tactic(auto)]
+
 pub mod lines;
 mod numbers;

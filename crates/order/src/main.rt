@@ -1,6 +1,8 @@
 //! Reads a head position, waiting requests, a limit and the ends of turns, and prints in which order
 //! each pool would send the requests, and which budgets each rule would give.
 
+#![tactic(auto)]
+
 mod budgets;
 mod entry;
 mod sending;

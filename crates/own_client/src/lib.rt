@@ -1,6 +1,8 @@
 //! A scheduler with a pool and a budget rule of one's own. That it keeps every promise follows from the
 //! contract of the sealing call alone: there is no proof here.
 
+#![tactic(auto)]
+
 ghost use Rattle.histories.specs.Promises.{Promises};
 ghost use Rattle.own_pool.specs.Choices.{youngest};
 ghost use Rattle.rosters.specs.Rosters.{line_up};

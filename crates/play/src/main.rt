@@ -1,5 +1,7 @@
 //! Runs a scripted history of calls on a roster, and prints every answer and each application's sectors.
 
+#![tactic(auto)]
+
 mod line;
 mod play;
 mod report;

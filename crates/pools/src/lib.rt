@@ -1,5 +1,7 @@
 //! Pools of waiting requests, and the rules by which applications are given their budgets.
 
+#![tactic(auto)]
+
 pub mod c_look;
 pub mod chooser;
 pub mod feedback;

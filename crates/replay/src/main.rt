@@ -1,5 +1,7 @@
 //! A trace on standard input, its listing on standard output.
 
+#![tactic(auto)]
+
 use anyhow::anyhow;
 use replays::replay::{LISTING_BYTES, replay};
 use replays::unlisted::Unlisted;

@@ -1,4 +1,6 @@
 //! Traces, replayed through a scheduler.
 
+#![tactic(auto)]
+
 pub mod replay;
 pub mod unlisted;

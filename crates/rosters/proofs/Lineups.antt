@@ -1,5 +1,5 @@
 -- One application more keeps what holds of a roster's applications. Assumes nothing.
-use Rattle.std.proofs.Common.{◌≡◌, ℕ, zero, suc, ◌<◌, true, List, [], ◌∷◌, ◌++◌, length, get_or, arith}
+use Rattle.std.proofs.Common.{◌≡◌, zero, suc, ◌<◌, true, List, [], ◌∷◌, ◌++◌, length, arith}
 use Rattle.rosters.specs.Applications.{Begins, AllInRange, in_range}
 use Rattle.rosters.specs.declared.application.Application.{Application}
 

@@ -1,5 +1,7 @@
 //! Rosters of applications: who shares a disk, and how much each is entitled to.
 
+#![tactic(auto)]
+
 pub mod application;
 pub mod cost;
 mod ranges;

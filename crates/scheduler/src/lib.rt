@@ -1,5 +1,7 @@
 //! A sealed scheduler: the roster's applications share one disk, by budgets.
 
+#![tactic(auto)]
+
 pub mod calls;
 mod desk;
 mod opening;

@@ -1,6 +1,8 @@
 //! The share law: however the operations of the stamp table follow each other, an application that is
 //! never idle falls behind its share by no more than a number of sectors that its roster fixes.
 
+#![tactic(auto)]
+
 ghost use Rattle.std.specs.Prelude.{◌≡◌, MatchOption};
 ghost use Rattle.rosters.specs.Rosters.{line_up};
 ghost use Rattle.share_law.specs.Shares.{Law, Unlisted};

@@ -1,5 +1,7 @@
 //! Reads a roster as text and prints the figures that its data sheet starts from.
 
+#![tactic(auto)]
+
 mod figures;
 mod line;
 mod sheet;

@@ -1,5 +1,7 @@
 //! Trace files: a reader over the caller's bytes, and a writer into the caller's buffer.
 
+#![tactic(auto)]
+
 pub mod fault;
 pub mod kind;
 pub mod parts;

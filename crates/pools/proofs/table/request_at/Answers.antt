@@ -1,5 +1,4 @@
-use Rattle.std.proofs.Common.{◌≡◌, is_some, ap, ◌∙◌}
-use Rattle.std.specs.List.{slice_get}
+use Rattle.std.proofs.Common.{is_some, ap, ◌∙◌}
 use Rattle.pools.proofs.Shown.{item_nth, some_found}
 use Rattle.pools.proofs.table.request_at.Goals as goal
 

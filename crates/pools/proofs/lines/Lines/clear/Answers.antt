@@ -1,5 +1,5 @@
 -- Each turn empties one line more.
-use Rattle.std.proofs.Common.{◌≡◌, ◌+◌, ◌<◌, List, [], ◌∷◌, ◌++◌, length, take, set, replicate, vec_items, sym, ap, ◌∙◌, arith}
+use Rattle.std.proofs.Common.{◌≡◌, ◌<◌, List, [], length, vec_items, arith}
 use lib.ListN.{replicate-append-replicate}
 use lib.Seq.{map-set}
 use Rattle.std.proofs.lemmas.List.{take_all, take_more_set}

@@ -1,5 +1,5 @@
 -- The line read is the application's; one that does not exist has an empty one.
-use Rattle.std.proofs.Common.{vec_items, sym, ◌∙◌, arith}
+use Rattle.std.proofs.Common.{sym, ◌∙◌}
 use Rattle.pools.specs.Standing.{line_read, no_line}
 use Rattle.pools.proofs.lines.Lines.line.Goals as goal
 

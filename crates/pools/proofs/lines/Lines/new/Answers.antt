@@ -10,9 +10,9 @@ pub loop-heap-preserved : goal.loop-heap-preserved
 loop-heap-preserved c =
     let lines = c.loop-heap.lines in
     let none : List Request = [] in
-    let empty : waiting c.in-ok-new.field-0 ≡ none = c.in-ok-new.ensures in
-    let pushed = map_push waiting (vec_items lines) c.in-ok-new.field-0 in
+    let empty : waiting c.in_ok-new.field-0 ≡ none = c.in_ok-new.ensures in
+    let pushed = map_push waiting (vec_items lines) c.in_ok-new.field-0 in
     let more = replicate-append-replicate (vec_len lines) 1 none in
     let before : map waiting (vec_items lines) ≡ replicate (vec_len lines) none = c.loop-heap.invariant.0 in
-    let now_empty : map waiting (vec_items c.push-reserved.new.self) ≡ replicate (vec_len c.push-reserved.new.self) none = cc in
-    (now_empty, omega (arith, c.push-reserved.ensures.len), omega (arith, c.push-reserved.ensures.capacity))
+    let now_empty : map waiting (vec_items c.push_reserved.new.self) ≡ replicate (vec_len c.push_reserved.new.self) none = cc in
+    (now_empty, omega (arith, c.push_reserved.ensures.len), omega (arith, c.push_reserved.ensures.capacity))

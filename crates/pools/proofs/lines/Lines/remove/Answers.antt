@@ -1,5 +1,5 @@
 -- The application's line gives the request up; one that does not exist has none.
-use Rattle.std.proofs.Common.{◌≡◌, set, vec_items, sym, ap, ◌∙◌, arith}
+use Rattle.std.proofs.Common.{vec_items, sym, ap, arith}
 use lib.Seq.{map-set}
 use Rattle.std.specs.List.{remove, slice_get}
 use Rattle.std.proofs.lemmas.List.{set_past}
@@ -20,6 +20,6 @@ returns-then-application-ge16 c =
 pub returns : goal.returns
 returns c =
     let ls = c.args.self.now in
-    let read = line_read ls c.args.application c.from.result c.index-mut.result.now c.from.ensures c.if-application-ge16.false c.index-mut.ensures.value in
+    let read = line_read ls c.args.application c.from.result c.index_mut.result.now c.from.ensures c.if-application-ge16.false c.index_mut.ensures.value in
     let stored = map-set waiting (vec_items ls.lines) c.from.result c.remove.new.self in
     record { answer = cc; after = cc }

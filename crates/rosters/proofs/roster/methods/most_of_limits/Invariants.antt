@@ -1,4 +1,4 @@
-use Rattle.std.proofs.Common.{◌≡◌, ◌*◌, ◌≤◌, take}
+use Rattle.std.proofs.Common.{◌≡◌, take}
 use Rattle.rosters.specs.Rosters.{largest}
 use Rattle.rosters.proofs.roster.methods.most_of_limits.Given as goal
 
