@@ -1,13 +1,12 @@
 -- A table is sound when it is made from a roster. Assumes nothing.
-use Rattle.std.proofs.Common.{◌≡◌, ℕ, zero, suc, ◌+◌, ◌*◌, ◌/◌, ◌<◌, ◌≤◌, true, false, leb, List, [], ◌∷◌, map, length, get_or, sym, refl, subst, le_trans, div-le_self, arith}
+use Rattle.std.proofs.Common.{◌≡◌, ℕ, ◌*◌, ◌<◌, ◌≤◌, true, false, leb, List, length, get_or, sym, refl, subst, le_trans, div-le_self, arith}
 use lib.ListN.{length-map}
-use Rattle.std.specs.List.{AllByRecursion as All}
 use Rattle.std.proofs.ByRecursion.{All-from_get_or, sum_by_le}
 use Rattle.std.proofs.lemmas.List.{get_or-map}
 use Rattle.std.proofs.lemmas.Bool.{and_parts, leb-true}
 use Rattle.rosters.specs.Applications.{application, between, in_range, AllInRange}
 use Rattle.rosters.specs.Rosters.{LineUp, weights, total_weight}
-use Rattle.rosters.specs.Stamps.{new_stamp, no_stamp, cost_of, is_serving}
+use Rattle.rosters.specs.Stamps.{new_stamp, no_stamp, is_serving}
 use Rattle.stamps.specs.Steps.{initial}
 use Rattle.stamps.specs.Tables.{Modest, Sound}
 use Rattle.rosters.specs.declared.application.Application.{Application}

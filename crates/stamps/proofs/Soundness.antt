@@ -1,5 +1,5 @@
 -- Every operation keeps the table sound. Assumes nothing.
-use Rattle.std.proofs.Common.{◌≡◌, ℕ, ◌+◌, ◌*◌, ◌^◌, ◌<◌, ◌≤◌, max, Bool, true, false, cond, ◌&&◌, eqb, ltb, leb, ◌⊎◌, length, get_or, set, Some, None, vec_items, Option, sym, refl, ap, ◌∙◌, subst, inl, inr, le_refl, mul-le-mul, mul-le-mul_left, arith, length-set, get_or-set_other, get_or-set_same, MatchOption}
+use Rattle.std.proofs.Common.{◌≡◌, ℕ, ◌+◌, ◌*◌, ◌^◌, ◌<◌, ◌≤◌, max, Bool, true, false, cond, ltb, leb, ◌⊎◌, length, get_or, set, Some, None, vec_items, Option, sym, refl, ap, ◌∙◌, subst, inl, inr, le_refl, mul-le-mul, mul-le-mul_left, arith, length-set, get_or-set_other, get_or-set_same, MatchOption}
 use mathlib.Core.Logic.{∥∥₁_elim}
 use mathlib.Core.HLevel.{Π_prop}
 use mathlib.Core.Bool.{Bool-set}
@@ -9,7 +9,7 @@ use Rattle.rosters.specs.Stamps.{by_status, is_idle, is_queued, is_serving, no_s
 use Rattle.stamps.specs.Rows.{position, paid, wake_stamp, serve_stamp, charge_stamp, with_budget, rest_stamp, requeue_stamp}
 use Rattle.stamps.specs.Tables.{Table, row, Modest, modest_prop, Sound, Sound-prop, is_application}
 use Rattle.stamps.specs.Known.{Current, Resting}
-use Rattle.stamps.specs.Steps.{can_wake, woken, can_allot, allotted, may_requeue, eligible, start_before, finish_before, pushed_to, pick_time, finishing, pick_beside, picked_by, picked, fits, charged_to, charged, requeued_from, requeued, rested_from, rested}
+use Rattle.stamps.specs.Steps.{can_wake, woken, can_allot, allotted, may_requeue, eligible, start_before, pushed_to, pick_time, finishing, pick_beside, picked_by, picked, fits, charged_to, charged, requeued_from, requeued, rested_from, rested}
 use Rattle.least.specs.Choice.{place, FirstLeast, NoneEligible}
 use Rattle.least.proofs.Places.{place_means}
 use Rattle.std.proofs.lemmas.List.MinMax.{IsStrictWeakOrder-by_number}

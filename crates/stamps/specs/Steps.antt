@@ -1,6 +1,6 @@
 -- The operations of the stamp table, each for every table: what it answers, and what it leaves. One that
 -- is out of place changes nothing.
-use Rattle.std.specs.Prelude.{ℕ, ◌+◌, ◌^◌, max, Bool, true, false, cond, ◌&&◌, List, map, length, Some, None, Option, nat_le, nat_lt, slice_set}
+use Rattle.std.specs.Prelude.{ℕ, ◌+◌, ◌^◌, max, Bool, false, cond, ◌&&◌, map, length, Some, None, Option, nat_le, nat_lt, slice_set}
 use Rattle.least.specs.Choice.{place}
 use Rattle.rosters.specs.Rosters.{LineUp, total_weight}
 use Rattle.rosters.specs.Stamps.{is_idle, is_queued, new_stamp, may_have}

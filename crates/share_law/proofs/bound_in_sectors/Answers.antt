@@ -12,19 +12,19 @@ use Rattle.share_law.proofs.bound_in_sectors.Goals as goal
 few : (x : Roster) → length (line_up x).applications ≤ 16
 few x = omega (arith, x.few, x.applications.ok.0)
 
-pub rounded-bound-requires : goal.rounded-bound-requires
-rounded-bound-requires c =
+pub rounded_bound-requires : goal.rounded_bound-requires
+rounded_bound-requires c =
     let x = c.args.roster.now in
     figures (line_up x) (few x) x.each c.args.application c.in-Some.entry c.in-Some.ensures _ _ _ _
-    (c.from-total-weight.ensures ∙ c.total_weight.ensures) (c.from-largest-limit.ensures ∙ c.largest_limit.ensures) c.from.ensures c.from-2.ensures
+    (c.from-total_weight.ensures ∙ c.total_weight.ensures) (c.from-largest_limit.ensures ∙ c.largest_limit.ensures) c.from.ensures c.from-2.ensures
 
-pub returns-in-default : goal.returns-in-default
-returns-in-default c =
+pub returns-in_default : goal.returns-in_default
+returns-in_default c =
     let x = c.args.roster.now in
     let r = line_up x in
     record {
-      answer = ap (option_map (λ a. rounded_up (allowed r a) (total_weight r))) c.in-default.ensures;
-      bound = missing r c.args.application (sym c.in-default.ensures);
+      answer = ap (option_map (λ a. rounded_up (allowed r a) (total_weight r))) c.in_default.ensures;
+      bound = missing r c.args.application (sym c.in_default.ensures);
       law = law r (few x) x.each;
       example = met;
     }
@@ -33,6 +33,6 @@ pub returns : goal.returns
 returns c =
     let x = c.args.roster.now in
     let both = bounded (line_up x) (few x) x.each c.args.application c.in-Some.entry c.in-Some.ensures _ _ _ _
-    (c.from-total-weight.ensures ∙ c.total_weight.ensures) (c.from-largest-limit.ensures ∙ c.largest_limit.ensures) c.from.ensures c.from-2.ensures
-    c.rounded-bound.result c.rounded-bound.ensures in
+    (c.from-total_weight.ensures ∙ c.total_weight.ensures) (c.from-largest_limit.ensures ∙ c.largest_limit.ensures) c.from.ensures c.from-2.ensures
+    c.rounded_bound.result c.rounded_bound.ensures in
     record { answer = both.0; bound = both.1; law = law (line_up x) (few x) x.each; example = met }

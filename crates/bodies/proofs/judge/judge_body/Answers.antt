@@ -13,26 +13,26 @@ room g c =
     let below = mul-le-mul_left c.width-width.result c.loop-i-test.true in
     omega (arith, same, below)
 
-pub overflow-mul-width : goal.overflow-mul-width
-overflow-mul-width g c = omega (arith, room g c)
+pub overflow_mul-width : goal.overflow_mul-width
+overflow_mul-width g c = omega (arith, room g c)
 
 pub cut-requires : goal.cut-requires
 cut-requires g c = room g c
 
-pub returns-in-err-judge : goal.returns-in-err-judge
-returns-in-err-judge g c =
-    let handed = err_from_is_err_and c.from-residual.result c.from-residual.ensures.1 in
+pub returns-in_err-judge : goal.returns-in_err-judge
+returns-in_err-judge g c =
+    let handed = err_from_is_err_and c.from_residual.result c.from_residual.ensures.1 in
     let pieces = chunks g.J.JudgeBytes.width c.args.count c.args.body.now in
     let is = piece_at g.J.JudgeBytes.width c.args.count c.args.body.now c.loop-i.i _ _ c.width-width.ensures c.cut.ensures.value c.loop-i-test.true in
     handed.1 ∙ ap Err handed.2 ∙ failed (g.J.JudgeBytes.verdict c.args.judge.now) pieces c.loop-i.i _ c.loop-i.invariant [] c.cut.result.now _
-    (omega (arith, length_chunks g.J.JudgeBytes.width c.args.count c.args.body.now)) is c.in-err-judge.ensures
+    (omega (arith, length_chunks g.J.JudgeBytes.width c.args.count c.args.body.now)) is c.in_err-judge.ensures
 
 pub loop-i-preserved : goal.loop-i-preserved
 loop-i-preserved g c =
     let pieces = chunks g.J.JudgeBytes.width c.args.count c.args.body.now in
     let is = piece_at g.J.JudgeBytes.width c.args.count c.args.body.now c.loop-i.i _ _ c.width-width.ensures c.cut.ensures.value c.loop-i-test.true in
     passed (g.J.JudgeBytes.verdict c.args.judge.now) pieces c.loop-i.i _ c.loop-i.invariant [] c.cut.result.now
-    (omega (arith, length_chunks g.J.JudgeBytes.width c.args.count c.args.body.now)) is c.in-ok-judge.ensures
+    (omega (arith, length_chunks g.J.JudgeBytes.width c.args.count c.args.body.now)) is c.in_ok-judge.ensures
 
 pub returns : goal.returns
 returns g c =

@@ -12,7 +12,7 @@ loop-i-init g c = (omega arith, sym (put_none c.args.at c.args.out.now), tt)
 
 pub put-end-requires : goal.put-end-requires
 put-end-requires g c =
-    let laid = g.row.R-Record.laid in
+    let laid = g.R.Record.laid in
     let table = c.args.table.now in
     let more = ap length (joined_step laid table c.loop-i.i c.index-table-i.result c.loop-i-test.true c.index-table-i.is) in
     let inside = joined_front laid (c.loop-i.i + 1) table in
@@ -20,23 +20,23 @@ put-end-requires g c =
 
 pub loop-i-preserved : goal.loop-i-preserved
 loop-i-preserved g c =
-    let laid = g.row.R-Record.laid in
+    let laid = g.R.Record.laid in
     let table = c.args.table.now in
     let x = c.index-table-i.result in
     let before = flat_map laid (take c.loop-i.i table) in
     let more = joined_step laid table c.loop-i.i x c.loop-i-test.true c.index-table-i.is in (
       omega (arith, c.put-end.ensures.end, c.loop-i.invariant.0, ap length more, length-append before (laid x)),
       put_twice c.args.at c.loop-i.end before (laid x) c.args.out.now c.loop-i.invariant.1 c.put-end.ensures.after c.loop-i.invariant.0 (omega (arith, c.requires)) ∙ ap (λ ys. put c.args.at ys c.args.out.now) (sym more),
-      All-more g.row.R-Record.fits table c.loop-i.i x c.loop-i-test.true c.loop-i.invariant.2 (subst g.row.R-Record.fits c.index-table-i.is c.put-end.ensures.within),
+      All-more g.R.Record.fits table c.loop-i.i x c.loop-i-test.true c.loop-i.invariant.2 (subst g.R.Record.fits c.index-table-i.is c.put-end.ensures.within),
     )
 
 pub returns : goal.returns
 returns g c =
-    let laid = g.row.R-Record.laid in
+    let laid = g.R.Record.laid in
     let table = c.args.table.now in
     let all : take c.loop-i.i table ≡ table = take_all c.loop-i.i table (omega arith) in
     record {
       end = c.loop-i.invariant.0 ∙ ap (λ xs. c.args.at + length (flat_map laid xs)) all;
       after = c.loop-i.invariant.1 ∙ ap (λ xs. put c.args.at (flat_map laid xs) c.args.out.now) all;
-      within = subst (All g.row.R-Record.fits) all c.loop-i.invariant.2;
+      within = subst (All g.R.Record.fits) all c.loop-i.invariant.2;
     }

@@ -5,4 +5,4 @@ use Rattle.bodies.proofs.put.put_table.Given as goal
 
 abbrev pub invariant-loop-i : goal.invariant-loop-i
 invariant-loop-i g l =
-    (l.end ≡ l.at + length (flat_map g.row.R-Record.laid (take l.i l.table))) × (l.out ≡ put l.at (flat_map g.row.R-Record.laid (take l.i l.table)) l.initial.out) × All g.row.R-Record.fits (take l.i l.table)
+    (l.end ≡ l.at + length (flat_map g.R.Record.laid (take l.i l.table))) × (l.out ≡ put l.at (flat_map g.R.Record.laid (take l.i l.table)) l.initial.out) × All g.R.Record.fits (take l.i l.table)

@@ -1,5 +1,5 @@
 -- The table is sound, so who is served has a row, and its numbers are small.
-use Rattle.std.proofs.Common.{sym, arith, rules}
+use Rattle.std.proofs.Common.{sym, arith}
 use Rattle.std.proofs.lemmas.List.{get_or_read}
 use Rattle.rosters.specs.Stamps.{no_stamp}
 use Rattle.stamps.specs.View.{table}

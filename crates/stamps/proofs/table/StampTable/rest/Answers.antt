@@ -4,10 +4,10 @@ use Rattle.stamps.specs.View.{table}
 use Rattle.stamps.proofs.Soundness.{kept_by, after, rested_sound}
 use Rattle.stamps.proofs.table.StampTable.rest.Goals as goal
 
-pub invariant-of-self : goal.invariant-of-self
-invariant-of-self c =
-    let old = c.args.self.now in (
-      kept_by (rested c.args.budget) (rested_sound c.args.budget) (table old)
-          (after old c.in-Some.k c.rested.result old.virtual_time old.sent None) (search rules) old.sound,
-      tt,
-    )
+pub invariant_of-self : goal.invariant_of-self
+invariant_of-self c =
+    let old = c.args.self.now in
+    record {
+      sound = kept_by (rested c.args.budget) (rested_sound c.args.budget) (table old)
+          (after old c.in-Some.k c.rested.result old.virtual_time old.sent None) (search rules) old.sound;
+    }
