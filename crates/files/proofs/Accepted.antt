@@ -1,12 +1,12 @@
 -- The writer takes what the reader took. Assumes nothing.
-use Rattle.std.proofs.Common.{◌≡◌, ℕ, zero, suc, ◌+◌, ◌*◌, ◌/◌, ◌≤◌, cond, leb, List, [], ◌∷◌, map, length, take, drop, Ok, Err, sym, refl, ap, ◌∙◌, subst, arith}
+use Rattle.std.proofs.Common.{◌≡◌, ℕ, zero, suc, ◌+◌, ◌*◌, ◌/◌, cond, leb, List, map, length, take, drop, Ok, Err, sym, ap, ◌∙◌, subst, arith}
 use Rattle.std.specs.List.{AllByRecursion as All}
 use Rattle.std.proofs.ByRecursion.{All-take, All-drop, All-weaker, All-map}
 use Rattle.std.proofs.lemmas.Bool.{cond-true, le-leb}
 use Rattle.fields.specs.Buffers.{put}
 use Rattle.fields.proofs.Puts.{take_put}
 use Rattle.records.specs.Faults.{fault, onward}
-use Rattle.records.specs.Layouts.{settings_of, application_of, application_fits, request_of, request_fits, event_record_of, event_fits}
+use Rattle.records.specs.Layouts.{application_of, application_fits, request_of, request_fits, event_record_of, event_fits}
 use Rattle.records.specs.declared.fault.Layer.TheVariants.{Contents as InContents}
 use Rattle.records.specs.declared.fault.Cause.TheVariants.{Buffer}
 use Rattle.records.proofs.RecordTrips.{Byte, settings_of_fits, application_of_fits, request_of_fits, event_record_of_fits}
@@ -14,8 +14,8 @@ use Rattle.bodies.specs.Bodies.{chunks, judged}
 use Rattle.bodies.specs.Judging.{judge_name}
 use Rattle.files.specs.Contents.{judge_counts, end_of, requests_at, events_at}
 use Rattle.files.specs.Reading.{Parts, parts, pieces, tables, judge_roster, opened, read}
-use Rattle.files.specs.Tables.{Tables, counts_of, bytes_of}
-use Rattle.files.specs.Writing.{Fits, Countable, Makes, judge_tables, write_answer}
+use Rattle.files.specs.Tables.{Tables, bytes_of}
+use Rattle.files.specs.Writing.{Fits, Makes, judge_tables, write_answer}
 use Rattle.files.specs.declared.contents.Contents.{Contents}
 use Rattle.files.proofs.Steps.{both_ok, test_ok}
 use Rattle.files.proofs.ReadBack.{read_back, length_file, counted, few_counts}

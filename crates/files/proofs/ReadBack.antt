@@ -1,20 +1,20 @@
 -- What was written is read back, or refused as the writer refuses it. Assumes nothing.
-use Rattle.std.proofs.Common.{◌≡◌, ℕ, ◌+◌, ◌*◌, ◌/◌, ◌^◌, ◌<◌, ◌≤◌, Bool, true, false, cond, ◌&&◌, eqb, ltb, leb, List, [], ◌∷◌, ◌++◌, map, length, take, drop, Ok, Err, Result, sym, refl, ap, ◌∙◌, subst, ap₂, arith}
-use Rattle.std.specs.List.{flat_map, AllByRecursion as All}
+use Rattle.std.proofs.Common.{◌≡◌, ℕ, ◌+◌, ◌*◌, ◌/◌, ◌≤◌, false, cond, ◌&&◌, eqb, ltb, leb, List, ◌++◌, map, length, take, drop, Ok, Err, Result, sym, refl, ap, ◌∙◌, subst, ap₂, arith}
+use Rattle.std.specs.List.{flat_map}
 use Rattle.std.proofs.lemmas.List.{length-append, drop-drop, take_at, drop_at, take_all}
-use Rattle.std.proofs.lemmas.Bool.{eq-eqb, le-leb, leb-true, le-ltb, and_from, cond-false, cond-true}
-use Rattle.fields.specs.Numbers.{bytes, number, field}
+use Rattle.std.proofs.lemmas.Bool.{eq-eqb, le-leb, leb-true, le-ltb, cond-false, cond-true}
+use Rattle.fields.specs.Numbers.{field}
 use Rattle.fields.proofs.Digits.{number_bytes}
-use Rattle.records.specs.Faults.{fault, onward}
-use Rattle.records.specs.Layouts.{settings_bytes, settings_of, application_bytes, application_of, application_fits, request_bytes, request_of, request_fits, event_bytes, event_record_of, event_fits}
+use Rattle.records.specs.Faults.{onward}
+use Rattle.records.specs.Layouts.{settings_bytes, application_bytes, application_of, application_fits, request_bytes, request_of, request_fits, event_bytes, event_record_of, event_fits}
 use Rattle.records.specs.declared.fault.Fault.{Fault}
 use Rattle.records.specs.declared.tables.Settings.{Settings}
 use Rattle.records.proofs.RecordTrips.{settings_read, settings_laid, application_read, request_read, request_laid, event_record_read, event_laid}
 use Rattle.bodies.specs.Bodies.{Verdict, judged, chunks}
-use Rattle.bodies.specs.Judging.{between, at_least_sound, judge_settings, judge_application, judge_request, judge_event, judge_name}
+use Rattle.bodies.specs.Judging.{at_least_sound, judge_application, judge_request, judge_event, judge_name}
 use Rattle.bodies.proofs.Judged.{judged_map}
 use Rattle.files.specs.Contents.{judge_counts, misplaced, entry, contents, counts, requests_at, events_at, end_of}
-use Rattle.files.specs.Reading.{Parts, parts, pieces, tables, judge_records, judge_roster, opened, read}
+use Rattle.files.specs.Reading.{Parts, parts, pieces, tables, judge_records, judge_roster, read}
 use Rattle.files.specs.Tables.{Tables, counts_of, bytes_of}
 use Rattle.files.specs.Writing.{Fits, Countable, judge_tables}
 use Rattle.files.specs.declared.contents.Contents.{Contents}

@@ -1,21 +1,21 @@
 -- What was read is written back as it stood. Assumes nothing.
-use Rattle.std.proofs.Common.{◌≡◌, ℕ, ◌+◌, ◌*◌, ◌/◌, ◌≤◌, Bool, true, cond, ◌&&◌, eqb, ltb, leb, List, [], ◌∷◌, ◌++◌, map, length, take, drop, Ok, Err, sym, refl, ap, ◌∙◌, subst, ap₂, arith}
+use Rattle.std.proofs.Common.{◌≡◌, ℕ, ◌+◌, ◌*◌, ◌/◌, ◌≤◌, ◌&&◌, eqb, ltb, leb, List, ◌++◌, map, length, take, drop, Ok, sym, ap, ◌∙◌, subst, ap₂, arith}
 use Rattle.std.specs.List.{flat_map, AllByRecursion as All}
 use Rattle.std.proofs.lemmas.List.{take-append-drop, length-take-le, length-drop, drop-drop, take_all}
 use Rattle.std.proofs.ByRecursion.{All-take, All-drop}
-use Rattle.std.proofs.lemmas.Bool.{and_parts, eqb-true, leb-true, ltb-false}
+use Rattle.std.proofs.lemmas.Bool.{and_parts, eqb-true, leb-true}
 use Rattle.fields.specs.Numbers.{bytes, number, field}
 use Rattle.fields.proofs.Digits.{bytes_number}
-use Rattle.records.specs.Faults.{fault, onward}
+use Rattle.records.specs.Faults.{fault}
 use Rattle.records.specs.Layouts.{settings_bytes, settings_of, settings_sound, application_bytes, application_of, application_sound, request_bytes, request_of, request_sound, event_bytes, event_record_of, event_sound}
 use Rattle.records.specs.declared.fault.Layer.TheVariants.{Contents as InContents}
 use Rattle.records.specs.declared.fault.Cause.TheVariants.{TooShort}
 use Rattle.records.proofs.RecordTrips.{Byte, settings_written, application_written, request_written, event_record_written}
 use Rattle.bodies.specs.Bodies.{judged}
-use Rattle.bodies.specs.Judging.{between, judge_settings, judge_application, judge_request, judge_event, judge_name}
+use Rattle.bodies.specs.Judging.{between, judge_settings, judge_application, judge_request, judge_event}
 use Rattle.files.specs.Contents.{misplaced, entry, contents, counts, requests_at, events_at, end_of}
 use Rattle.files.specs.Reading.{Parts, parts, pieces, tables, judge_records, judge_roster, opened}
-use Rattle.files.specs.Tables.{Tables, entry_bytes, contents_bytes, counts_of, bytes_of}
+use Rattle.files.specs.Tables.{contents_bytes, counts_of, bytes_of}
 use Rattle.files.specs.Writing.{Countable}
 use Rattle.files.specs.declared.contents.Contents.{Contents}
 use Rattle.files.proofs.Steps.{both_ok, test_ok, past_test}

@@ -1,5 +1,5 @@
 -- What an accepted step says of its parts. Assumes nothing.
-use Rattle.std.proofs.Common.{◌≡◌, ℕ, Bool, true, false, cond, Ok, Err, Result, sym, refl, ap, ◌∙◌, subst, arith}
+use Rattle.std.proofs.Common.{◌≡◌, ℕ, Bool, true, false, cond, Ok, Err, Result, refl, arith}
 use Rattle.records.specs.Faults.{onward}
 use Rattle.records.specs.declared.fault.Fault.{Fault}
 

@@ -1,5 +1,5 @@
 -- What is read from a file: its parts and their tables, or its first fault.
-use Rattle.std.specs.Prelude.{◌≡◌, ℕ, ◌+◌, ◌*◌, ◌/◌, ◌≤◌, List, map, length, Ok, Err, Result}
+use Rattle.std.specs.Prelude.{◌≡◌, ℕ, ◌*◌, ◌/◌, ◌≤◌, List, map, length, Ok, Result}
 use Rattle.records.specs.Faults.{onward}
 use Rattle.records.specs.Layouts.{settings_of, application_of, request_of, event_record_of}
 use Rattle.records.specs.declared.fault.Fault.{Fault}

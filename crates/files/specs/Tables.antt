@@ -1,5 +1,5 @@
 -- The tables of a trace, and the bytes that they make.
-use Rattle.std.specs.Prelude.{ℕ, ◌+◌, ◌*◌, List, ◌++◌, length}
+use Rattle.std.specs.Prelude.{ℕ, List, ◌++◌, length}
 use Rattle.std.specs.List.{flat_map}
 use Rattle.fields.specs.Numbers.{bytes}
 use Rattle.records.specs.Layouts.{settings_bytes, application_bytes, request_bytes, event_bytes}
@@ -7,7 +7,7 @@ use Rattle.records.specs.declared.tables.Settings.{Settings}
 use Rattle.records.specs.declared.tables.ApplicationRecord.{ApplicationRecord}
 use Rattle.records.specs.declared.tables.RequestRecord.{RequestRecord}
 use Rattle.records.specs.declared.tables.EventRecord.{EventRecord}
-use Rattle.files.specs.Contents.{requests_at, events_at, counts, end_of}
+use Rattle.files.specs.Contents.{requests_at, events_at, counts}
 use Rattle.files.specs.declared.contents.Contents.{Contents}
 
 pub record Tables : Type 0 where

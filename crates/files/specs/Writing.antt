@@ -11,11 +11,11 @@ use Rattle.records.specs.declared.tables.Settings.{Settings}
 use Rattle.records.specs.declared.tables.ApplicationRecord.{ApplicationRecord}
 use Rattle.records.specs.declared.tables.RequestRecord.{RequestRecord}
 use Rattle.records.specs.declared.tables.EventRecord.{EventRecord}
-use Rattle.bodies.specs.Bodies.{Verdict, judged}
+use Rattle.bodies.specs.Bodies.{judged}
 use Rattle.bodies.specs.Judging.{judge_name}
 use Rattle.files.specs.Contents.{events_at, end_of, judge_counts}
 use Rattle.files.specs.Reading.{judge_roster, read}
-use Rattle.files.specs.Tables.{Tables, counts_of, bytes_of}
+use Rattle.files.specs.Tables.{Tables, bytes_of}
 use Rattle.files.specs.declared.contents.Contents.{Contents}
 
 abbrev pub given : Settings → List ApplicationRecord → List RequestRecord → List EventRecord → Tables

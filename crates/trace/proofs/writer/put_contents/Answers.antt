@@ -11,6 +11,6 @@ returns c =
     let e1 = entry_bytes 40 k.applications in
     let e2 = entry_bytes (requests_at k.applications) k.requests in
     let e3 = entry_bytes (events_at k.applications k.requests) k.events in
-    let two = put_twice 0 _ e0 e1 _ c.put-entry-end.ensures.after c.put-entry-end-2.ensures.after c.put-entry-end.ensures.end (omega arith) in
-    let three = put_twice 0 _ (e0 ++ e1) e2 _ two c.put-entry-end-3.ensures.after (omega arith) (omega arith) in
-    record { end = search rules; after = put_twice 0 _ (e0 ++ (e1 ++ e2)) e3 _ three c.put-entry.ensures.after (omega arith) (omega arith) }
+    let two = put_twice 0 _ e0 e1 _ c.put_entry-end.ensures.after c.put_entry-end-2.ensures.after c.put_entry-end.ensures.end (omega arith) in
+    let three = put_twice 0 _ (e0 ++ e1) e2 _ two c.put_entry-end-3.ensures.after (omega arith) (omega arith) in
+    record { end = search rules; after = put_twice 0 _ (e0 ++ (e1 ++ e2)) e3 _ three c.put_entry.ensures.after (omega arith) (omega arith) }

@@ -8,6 +8,6 @@ returns c =
     record {
       end = search rules;
       after =
-          put_twice _ _ (bytes 4 c.args.offset) (bytes 4 c.args.count) _ c.put-u32-end.ensures.after c.put-u32.ensures.after
-          c.put-u32-end.ensures.end (omega arith);
+          put_twice _ _ (bytes 4 c.args.offset) (bytes 4 c.args.count) _ c.put_u32-end.ensures.after c.put_u32.ensures.after
+          c.put_u32-end.ensures.end (omega arith);
     }

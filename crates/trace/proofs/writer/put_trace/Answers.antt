@@ -11,18 +11,18 @@ use Rattle.files.proofs.Lengths.{length_bodies}
 use Rattle.trace.proofs.writer.put_trace.Goals as goal
 
 -- the bodies end where the contents say
-pub put-table-end-requires : goal.put-table-end-requires
-put-table-end-requires c =
+pub put_table-end-requires : goal.put_table-end-requires
+put_table-end-requires c =
     let t = given c.args.settings c.args.applications.now c.args.requests.now c.args.events.now in
     omega (arith, length_bodies t, ap end_of c.requires.counts)
 
-pub put-table-end-requires-2 : goal.put-table-end-requires-2
-put-table-end-requires-2 c =
+pub put_table-end-requires-2 : goal.put_table-end-requires-2
+put_table-end-requires-2 c =
     let t = given c.args.settings c.args.applications.now c.args.requests.now c.args.events.now in
     omega (arith, length_bodies t, ap end_of c.requires.counts)
 
-pub put-table-requires : goal.put-table-requires
-put-table-requires c =
+pub put_table-requires : goal.put_table-requires
+put_table-requires c =
     let t = given c.args.settings c.args.applications.now c.args.requests.now c.args.events.now in
     omega (arith, length_bodies t, ap end_of c.requires.counts)
 
@@ -34,13 +34,13 @@ returns c =
     let xs = flat_map application_bytes c.args.applications.now in
     let rs = flat_map request_bytes c.args.requests.now in
     let es = flat_map event_bytes c.args.events.now in
-    let two = put_twice 0 _ head set buffer c.put-contents-end.ensures.after c.put-end.ensures.after c.put-contents-end.ensures.end (omega arith) in
-    let three = put_twice 0 _ (head ++ set) xs buffer two c.put-table-end.ensures.after (omega arith) (omega arith) in
-    let four = put_twice 0 _ (head ++ (set ++ xs)) rs buffer three c.put-table-end-2.ensures.after (omega arith) (omega arith) in
-    let five = put_twice 0 _ (head ++ (set ++ (xs ++ rs))) es buffer four c.put-table.ensures.after (omega (arith, length-append xs rs)) (omega arith) in
+    let two = put_twice 0 _ head set buffer c.put_contents-end.ensures.after c.put-end.ensures.after c.put_contents-end.ensures.end (omega arith) in
+    let three = put_twice 0 _ (head ++ set) xs buffer two c.put_table-end.ensures.after (omega arith) (omega arith) in
+    let four = put_twice 0 _ (head ++ (set ++ xs)) rs buffer three c.put_table-end-2.ensures.after (omega arith) (omega arith) in
+    let five = put_twice 0 _ (head ++ (set ++ (xs ++ rs))) es buffer four c.put_table.ensures.after (omega (arith, length-append xs rs)) (omega arith) in
     record {
       after =
           five ∙ ap (λ ys. put 0 (head ++ (set ++ ys)) buffer) (append_assoc xs rs es)
           ∙ ap (λ k. put 0 (contents_bytes k ++ (set ++ (xs ++ (rs ++ es)))) buffer) c.requires.counts;
-      within = record { settings = c.put-end.ensures.within; applications = c.put-table-end.ensures.within; requests = c.put-table-end-2.ensures.within; events = c.put-table.ensures.within };
+      within = record { settings = c.put-end.ensures.within; applications = c.put_table-end.ensures.within; requests = c.put_table-end-2.ensures.within; events = c.put_table.ensures.within };
     }

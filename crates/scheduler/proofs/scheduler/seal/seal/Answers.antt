@@ -8,8 +8,8 @@ use Rattle.scheduler.specs.Sealing.{Waiting}
 use Rattle.scheduler.proofs.Firsts.{begins_waiting}
 use Rattle.scheduler.proofs.scheduler.seal.seal.Goals as goal
 
-pub allot-first-requires : goal.allot-first-requires
-allot-first-requires g c = subst Waiting (sym c.new-table.ensures) (begins_waiting (line_up c.args.roster) c.args.roster.each)
+pub allot_first-requires : goal.allot_first-requires
+allot_first-requires g c = subst Waiting (sym c.new-table.ensures) (begins_waiting (line_up c.args.roster) c.args.roster.each)
 
 pub returns : goal.returns
 returns g c =

@@ -3,10 +3,10 @@ use Rattle.records.specs.Layouts.{application_of}
 use Rattle.files.proofs.Rows.{record_taken}
 use Rattle.trace.proofs.trace.Trace.application.Goals as goal
 
-pub returns-in-default : goal.returns-in-default
-returns-in-default c =
+pub returns-in_default : goal.returns-in_default
+returns-in_default c =
     let body = c.args.self.now.applications in
-    record_taken application_of 8 body.bytes.now body.offset c.args.index None c.in-default.ensures.value
+    record_taken application_of 8 body.bytes.now body.offset c.args.index None c.in_default.ensures.value
 
 pub returns : goal.returns
 returns c =
