@@ -1,4 +1,4 @@
-use Rattle.std.proofs.Common.{sym, ap, ◌∙◌, rules}
+use Rattle.std.proofs.Common.{rules}
 use Rattle.records.specs.Layouts.{application_of}
 use Rattle.bodies.specs.Judging.{judge_member}
 use Rattle.bodies.proofs.Judged.{judged_map}
