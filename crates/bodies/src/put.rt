@@ -1,7 +1,7 @@
 //! A table of records put into a buffer.
 
 ghost use Rattle.std.specs.Prelude.{◌≡◌, ◌+◌, ◌≤◌, length};
-ghost use Rattle.std.specs.List.{flat_map, AllByRecursion as All};
+ghost use Rattle.std.specs.List.{flat_map, AllByRecursion};
 ghost use Rattle.fields.specs.Buffers.{put};
 
 use records::record::Record;
@@ -11,7 +11,7 @@ pub fn put_table<R: Record + Copy>(table: &[R], out: &mut [u8], at: usize) -> us
     requires { at + length (flat_map R.Record.laid table.now) ≤ length out.old }
     ensures end { result ≡ at + length (flat_map R.Record.laid table.now) }
     ensures after { out.new ≡ put at (flat_map R.Record.laid table.now) out.old }
-    ensures within { All R.Record.fits table.now }
+    ensures within { AllByRecursion R.Record.fits table.now }
 {
     let mut end = at;
     for i in 0..table.len() {

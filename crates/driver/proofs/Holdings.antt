@@ -1,5 +1,5 @@
 -- Each call keeps the token in step with the flight. Assumes nothing.
-use Rattle.std.proofs.Common.{◌≡◌, ℕ, ◌+◌, ◌^◌, ◌≤◌, Bool, true, false, cond, not, ◌||◌, eqb, ltb, Some, None, Ok, Err, Option, Result, sym, refl, ap, ◌∙◌, subst, arith}
+use Rattle.std.proofs.Common.{◌≡◌, ℕ, ◌^◌, Bool, true, false, cond, not, Some, None, Ok, Err, Option, sym, refl, ap, ◌∙◌, subst, arith}
 use Rattle.std.proofs.lemmas.Bool.{eq-eqb, le-ltb, or_from}
 use Rattle.machine.proofs.Flight.{arrived_flight, arrived_clock, ticked_flight, ticked_clock, dispatched_flight, dispatched_clock, completed_flight, completed_clock, flight_by}
 use Rattle.machine.specs.Calls.{arrived, dispatched, dispatch_refusal, dispatch_reply, completed, completion_refusal, ticked, differs, same_kind, unless, is_some, landed, mismatch, out_of_time}

@@ -1,5 +1,5 @@
 -- One call more of a script, and its end. Assumes nothing.
-use Rattle.std.proofs.Common.{◌≡◌, ℕ, ◌+◌, ◌<◌, ◌≤◌, List, [], ◌∷◌, ◌++◌, length, get_or, take, drop, set, sym, refl, ap, ◌∙◌, subst, ap₂, append_assoc, arith, take-append-drop}
+use Rattle.std.proofs.Common.{◌≡◌, ℕ, ◌+◌, ◌<◌, ◌≤◌, List, [], ◌∷◌, ◌++◌, length, get_or, take, drop, set, sym, ap, ◌∙◌, ap₂, append_assoc, arith, take-append-drop}
 use Rattle.std.proofs.lemmas.List.{take_more_set, drop_more, drop_all, drop-set-lt, drop-drop, append-nil}
 use Rattle.machine.specs.Machine.{Machine, Rule}
 use Rattle.pools.specs.Lines.{Choice}

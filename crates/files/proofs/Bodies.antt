@@ -1,6 +1,6 @@
 -- Bodies and their records. Assumes nothing.
 use Rattle.std.proofs.Common.{◌≡◌, ℕ, zero, suc, ◌*◌, List, [], ◌∷◌, ◌++◌, map, length, take, drop, Ok, refl, ap, ◌∙◌, ap₂, arith}
-use Rattle.std.specs.List.{flat_map, AllByRecursion as All}
+use Rattle.std.specs.List.{flat_map, AllByRecursion}
 use Rattle.std.proofs.lemmas.List.{take-append-drop, length-take-le, length-drop, take_at, drop_at}
 use Rattle.std.proofs.ByRecursion.{All-take, All-drop}
 use Rattle.records.specs.Faults.{onward}
@@ -10,7 +10,7 @@ use Rattle.files.proofs.Steps.{both_ok}
 
 module _ {X : Type 0} (lay : X → List ℕ) (get : List ℕ → X) (w : ℕ) where
   -- a body whose records are accepted one by one is what they lay out
-  pub body_again : (judge : ℕ → List ℕ → Verdict) → ((i : ℕ) (bs : List ℕ) → length bs ≡ w → All Byte bs → judge i bs ≡ Ok tt → lay (get bs) ≡ bs) → (n i : ℕ) (body : List ℕ) → length body ≡ w * n → All Byte body → judged judge i (chunks w n body) ≡ Ok tt → flat_map lay (map get (chunks w n body)) ≡ body
+  pub body_again : (judge : ℕ → List ℕ → Verdict) → ((i : ℕ) (bs : List ℕ) → length bs ≡ w → AllByRecursion Byte bs → judge i bs ≡ Ok tt → lay (get bs) ≡ bs) → (n i : ℕ) (body : List ℕ) → length body ≡ w * n → AllByRecursion Byte body → judged judge i (chunks w n body) ≡ Ok tt → flat_map lay (map get (chunks w n body)) ≡ body
   body_again judge written zero i body size each ok = nothing body (omega arith)
     where
       nothing : (xs : List ℕ) → length xs ≡ 0 → [] ≡ xs
@@ -29,12 +29,12 @@ module _ {X : Type 0} (lay : X → List ℕ) (get : List ℕ → X) (w : ℕ) wh
       ap₂ (λ p q. p ∷ chunks w (length xs) q) (take_at (lay x) (flat_map lay xs) w (each x)) (drop_at (lay x) (flat_map lay xs) w (each x)) ∙ ap (λ q. lay x ∷ q) (chunks_joined each xs)
 
   -- and are read back one by one
-  pub map_back : (P : X → Type 0) → ((x : X) → P x → get (lay x) ≡ x) → (xs : List X) → All P xs → map get (map lay xs) ≡ xs
+  pub map_back : (P : X → Type 0) → ((x : X) → P x → get (lay x) ≡ x) → (xs : List X) → AllByRecursion P xs → map get (map lay xs) ≡ xs
   map_back P back [] all = refl
   map_back P back (x ∷ xs) all = ap₂ (λ y ys. y ∷ ys) (back x all.0) (map_back P back xs all.1)
 
 -- judgements that agree on what holds of each record
-pub judged_same : {X : Type 0} (P : X → Type 0) (judge other : ℕ → X → Verdict) → ((i : ℕ) (x : X) → P x → judge i x ≡ other i x) → (i : ℕ) (xs : List X) → All P xs → judged judge i xs ≡ judged other i xs
+pub judged_same : {X : Type 0} (P : X → Type 0) (judge other : ℕ → X → Verdict) → ((i : ℕ) (x : X) → P x → judge i x ≡ other i x) → (i : ℕ) (xs : List X) → AllByRecursion P xs → judged judge i xs ≡ judged other i xs
 judged_same P judge other alike i [] all = refl
 judged_same P judge other alike i (x ∷ xs) all = ap₂ (λ v w. onward v (λ _. w)) (alike i x all.0) (judged_same P judge other alike (suc i) xs all.1)
 

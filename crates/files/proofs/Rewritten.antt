@@ -1,6 +1,6 @@
 -- What was read is written back as it stood. Assumes nothing.
 use Rattle.std.proofs.Common.{◌≡◌, ℕ, ◌+◌, ◌*◌, ◌/◌, ◌≤◌, ◌&&◌, eqb, ltb, leb, List, ◌++◌, map, length, take, drop, Ok, sym, ap, ◌∙◌, subst, ap₂, arith}
-use Rattle.std.specs.List.{flat_map, AllByRecursion as All}
+use Rattle.std.specs.List.{flat_map, AllByRecursion}
 use Rattle.std.proofs.lemmas.List.{take-append-drop, length-take-le, length-drop, drop-drop, take_all}
 use Rattle.std.proofs.ByRecursion.{All-take, All-drop}
 use Rattle.std.proofs.lemmas.Bool.{and_parts, eqb-true, leb-true}
@@ -71,7 +71,7 @@ contents_ok bs c h =
       ends = eqb-true (length bs) (end_of (counts a r e)) whole.0;
     })
 
-module _ (bs : List ℕ) (each : All Byte bs) where
+module _ (bs : List ℕ) (each : AllByRecursion Byte bs) where
   -- a field and what is behind it, as they stood
   field_on : (at n : ℕ) (rest : List ℕ) → at + n ≤ length bs → rest ≡ drop (at + n) bs → bytes n (field at n bs) ++ rest ≡ drop at bs
   field_on at n rest h behind =
@@ -115,7 +115,7 @@ module _ (bs : List ℕ) (each : All Byte bs) where
     length_part : (at n : ℕ) → at + n ≤ length bs → length (take n (drop at bs)) ≡ n
     length_part at n h = length-take-le n (drop at bs) (omega (arith, length-drop at bs))
 
-    all_part : (at n : ℕ) → All Byte (take n (drop at bs))
+    all_part : (at n : ℕ) → AllByRecursion Byte (take n (drop at bs))
     all_part at n = All-take Byte n (drop at bs) (All-drop Byte at bs each)
 
     same_settings : judge_settings set ≡ Ok tt → settings_bytes (settings_of set) ≡ set
@@ -166,7 +166,7 @@ module _ (bs : List ℕ) (each : All Byte bs) where
         ∙ head_on c _ known g
 
 -- whatever bytes are accepted, their tables make the same bytes
-pub rewritten : (bs : List ℕ) (p : Parts) → All Byte bs → opened bs ≡ Ok p → bytes_of (tables p) ≡ bs
+pub rewritten : (bs : List ℕ) (p : Parts) → AllByRecursion Byte bs → opened bs ≡ Ok p → bytes_of (tables p) ≡ bs
 rewritten bs p each ok =
     let first = both_ok (contents bs) _ p ok in
     let c = first.0 in
@@ -176,7 +176,7 @@ rewritten bs p each ok =
     subst (λ q. bytes_of (tables q) ≡ bs) same (same_bytes bs each c (contents_ok bs c first.1) second.1)
 
 -- accepted bytes have no more records than they may
-pub few_again : (bs : List ℕ) (p : Parts) → All Byte bs → opened bs ≡ Ok p → Countable (tables p)
+pub few_again : (bs : List ℕ) (p : Parts) → AllByRecursion Byte bs → opened bs ≡ Ok p → Countable (tables p)
 few_again bs p each ok =
     let first = both_ok (contents bs) _ p ok in
     let c = first.0 in

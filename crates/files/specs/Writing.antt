@@ -1,6 +1,6 @@
 -- What the writer answers, and what it leaves in the buffer.
 use Rattle.std.specs.Prelude.{◌≡◌, ℕ, ◌^◌, ◌<◌, ◌≤◌, cond, List, length, Ok, Err, Result, nat_le}
-use Rattle.std.specs.List.{AllByRecursion as All}
+use Rattle.std.specs.List.{AllByRecursion}
 use Rattle.fields.specs.Buffers.{put}
 use Rattle.records.specs.Faults.{fault, onward}
 use Rattle.records.specs.Layouts.{settings_fits, application_fits, request_fits, event_fits}
@@ -41,9 +41,9 @@ written (Err e) t out = out
 -- every number lies within its field
 pub record Fits (t : Tables) : Type 0 where
   pub settings : settings_fits t.settings
-  pub applications : All application_fits t.applications
-  pub requests : All request_fits t.requests
-  pub events : All event_fits t.events
+  pub applications : AllByRecursion application_fits t.applications
+  pub requests : AllByRecursion request_fits t.requests
+  pub events : AllByRecursion event_fits t.events
 
 -- every record count lies within its field, as it does in any file
 pub record Countable (t : Tables) : Type 0 where

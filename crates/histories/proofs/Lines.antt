@@ -1,6 +1,6 @@
 -- The lines of waiting requests, as a request joins its line and as one is sent.
 use Rattle.std.proofs.Common.{◌≡◌, ℕ, ◌+◌, ◌^◌, ◌<◌, ◌≤◌, cond, eqb, ◌⊎◌, List, [], ◌∷◌, ◌++◌, length, set, Some, Ok, Err, filter, Result, sym, refl, ap, ◌∙◌, subst, inl, inr, arith}
-use Rattle.std.specs.List.{remove, AllByRecursion as All, slice_get}
+use Rattle.std.specs.List.{remove, AllByRecursion, slice_get}
 use Rattle.std.proofs.ByRecursion.{All-weaker, All-push}
 use Rattle.std.proofs.lemmas.List.{append-nil, length-set, get_or-set_same, get_or-set_other}
 use Rattle.std.proofs.lemmas.List.Sums.{sum_by-set, sum_by_push}
@@ -45,7 +45,7 @@ module _ (n count total sent : ℕ) (ls : List (List Request)) (x : ℕ → Know
       sixteen = length-set ls k (remove (line ls k) p) ∙ lined.sixteen;
       lines = λ j. lines j (cases_eq j k);
       owner = lined.owner;
-      fine = λ j. at (λ i w. All (Fine n lined.owner count i) w) lined.fine (all_removed (Fine n lined.owner count k) (x k).waiting p (lined.fine k)) j (cases_eq j k);
+      fine = λ j. at (λ i w. AllByRecursion (Fine n lined.owner count i) w) lined.fine (all_removed (Fine n lined.owner count k) (x k).waiting p (lined.fine k)) j (cases_eq j k);
       rising = λ j. at (λ i w. Rising w) lined.rising (rising_removed (x k).waiting p (lined.rising k)) j (cases_eq j k);
       sums = omega (arith, lined.sums, sum_by-set sizes ls k (remove (line ls k) p) [] inside, sum_removed (line ls k) p q here);
       total_high = lined.total_high;
@@ -118,7 +118,7 @@ module _ (n count total sent : ℕ) (ls : List (List Request)) (x : ℕ → Know
       sixteen = length-set ls a (line ls a ++ (q ∷ [])) ∙ lined.sixteen;
       lines = λ j. lines j (cases_eq j a);
       owner = owner;
-      fine = λ j. at (λ i w. All (Fine n owner (count + 1) i) w) still (All-push (Fine n owner (count + 1) a) (x a).waiting q (still a) fine_new) j (cases_eq j a);
+      fine = λ j. at (λ i w. AllByRecursion (Fine n owner (count + 1) i) w) still (All-push (Fine n owner (count + 1) a) (x a).waiting q (still a) fine_new) j (cases_eq j a);
       rising = λ j. at (λ i w. Rising w) lined.rising
           (rising_push (x a).waiting q (lined.rising a) (All-weaker (Fine n lined.owner count a) (λ y. y.number < q.number) (λ y f. omega (arith, f.counted, number)) (x a).waiting (lined.fine a)))
           j (cases_eq j a);
@@ -130,7 +130,7 @@ module _ (n count total sent : ℕ) (ls : List (List Request)) (x : ℕ → Know
         inside : q.application < length ls
         inside = omega (arith, listed, lined.sixteen)
 
-        still : (j : ℕ) → All (Fine n owner (count + 1) j) (x j).waiting
+        still : (j : ℕ) → AllByRecursion (Fine n owner (count + 1) j) (x j).waiting
         still j = All-weaker (Fine n lined.owner count j) (Fine n owner (count + 1) j) (fine_still j) (x j).waiting (lined.fine j)
 
         at : (P : ℕ → List Request → Type 0) → ((j : ℕ) → P j (x j).waiting) → P q.application ((x q.application).waiting ++ (q ∷ [])) → (j : ℕ) → (j ≡ q.application) ⊎ (j ≡ q.application → ⊥)

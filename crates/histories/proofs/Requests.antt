@@ -1,6 +1,6 @@
 -- Lines of requests in which the numbers rise: taking one out by its place, and by its number.
 use Rattle.std.proofs.Common.{◌≡◌, ℕ, zero, suc, ◌+◌, ◌<◌, false, not, eqb, List, [], ◌∷◌, ◌++◌, length, Some, sum_by, filter, refl, ap, ◌∙◌, subst, arith}
-use Rattle.std.specs.List.{remove, AllByRecursion as All, slice_get}
+use Rattle.std.specs.List.{remove, AllByRecursion, slice_get}
 use Rattle.std.proofs.lemmas.List.Sums.{sum_by-cons}
 use Rattle.std.proofs.lemmas.Bool.{eq-eqb, ne_eqb, cond-true, cond-false}
 use Rattle.pools.specs.declared.request.Request.{Request}
@@ -8,17 +8,17 @@ use Rattle.histories.specs.History.{numbered, otherwise_numbered}
 
 abbrev pub Rising : List Request → Type 0
 Rising [] = Unit {0}
-Rising (x ∷ xs) = All (λ y. x.number < y.number) xs × Rising xs
+Rising (x ∷ xs) = AllByRecursion (λ y. x.number < y.number) xs × Rising xs
 
-pub rising_push : (xs : List Request) (y : Request) → Rising xs → All (λ x. x.number < y.number) xs → Rising (xs ++ (y ∷ []))
+pub rising_push : (xs : List Request) (y : Request) → Rising xs → AllByRecursion (λ x. x.number < y.number) xs → Rising (xs ++ (y ∷ []))
 rising_push [] y h k = (tt, tt)
 rising_push (x ∷ xs) y h k = (all_last xs h.0, rising_push xs y h.1 k.1)
   where
-    all_last : (zs : List Request) → All (λ z. x.number < z.number) zs → All (λ z. x.number < z.number) (zs ++ (y ∷ []))
+    all_last : (zs : List Request) → AllByRecursion (λ z. x.number < z.number) zs → AllByRecursion (λ z. x.number < z.number) (zs ++ (y ∷ []))
     all_last [] a = (k.0, tt)
     all_last (z ∷ zs) a = (a.0, all_last zs a.1)
 
-pub all_removed : (P : Request → Type 0) (xs : List Request) (i : ℕ) → All P xs → All P (remove xs i)
+pub all_removed : (P : Request → Type 0) (xs : List Request) (i : ℕ) → AllByRecursion P xs → AllByRecursion P (remove xs i)
 all_removed P [] zero h = tt
 all_removed P [] (suc i) h = tt
 all_removed P (x ∷ xs) zero h = h.1
@@ -30,7 +30,7 @@ rising_removed [] (suc i) h = tt
 rising_removed (x ∷ xs) zero h = h.1
 rising_removed (x ∷ xs) (suc i) h = (all_removed (λ y. x.number < y.number) xs i h.0, rising_removed xs i h.1)
 
-pub all_nth : (P : Request → Type 0) (xs : List Request) (i : ℕ) (q : Request) → All P xs → slice_get xs i ≡ Some q → P q
+pub all_nth : (P : Request → Type 0) (xs : List Request) (i : ℕ) (q : Request) → AllByRecursion P xs → slice_get xs i ≡ Some q → P q
 all_nth P [] i q h e = let z : ◌≡◌ {A = ℕ} 0 1 = cc in absurd (omega arith)
 all_nth P (x ∷ xs) zero q h e = let s : x ≡ q = cc in subst P s h.0
 all_nth P (x ∷ xs) (suc i) q h e = all_nth P xs i q h.1 e
@@ -40,11 +40,11 @@ module _ (n : ℕ) where
   abbrev Other : Request → Type 0
   Other y = y.number ≡ n → ⊥
 
-  pub none_other : (xs : List Request) → All Other xs → filter (numbered n) xs ≡ []
+  pub none_other : (xs : List Request) → AllByRecursion Other xs → filter (numbered n) xs ≡ []
   none_other [] h = refl
   none_other (x ∷ xs) h = cond-false (numbered n x) (x ∷ filter (numbered n) xs) (filter (numbered n) xs) (ne_eqb x.number n h.0) ∙ none_other xs h.1
 
-  pub all_other : (xs : List Request) → All Other xs → filter (otherwise_numbered n) xs ≡ xs
+  pub all_other : (xs : List Request) → AllByRecursion Other xs → filter (otherwise_numbered n) xs ≡ xs
   all_other [] h = refl
   all_other (x ∷ xs) h =
       cond-true (otherwise_numbered n x) (x ∷ filter (otherwise_numbered n) xs) (filter (otherwise_numbered n) xs) (ap not (ne_eqb x.number n h.0))
@@ -55,7 +55,7 @@ pub record Taken (q : Request) (xs : List Request) (i : ℕ) : Type 0 where
   pub rest : filter (otherwise_numbered q.number) xs ≡ remove xs i
   pub one : filter (numbered q.number) xs ≡ q ∷ []
 
-above : (n : ℕ) (xs : List Request) → All (λ y. n < y.number) xs → All (λ y. y.number ≡ n → ⊥) xs
+above : (n : ℕ) (xs : List Request) → AllByRecursion (λ y. n < y.number) xs → AllByRecursion (λ y. y.number ≡ n → ⊥) xs
 above n [] h = tt
 above n (x ∷ xs) h = ((λ e. omega (arith, h.0, e)), above n xs h.1)
 

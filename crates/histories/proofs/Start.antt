@@ -1,6 +1,6 @@
 -- Where all begins: the invariant holds, and the table is that of the roster, with a budget allotted to each.
 use Rattle.std.proofs.Common.{◌≡◌, ℕ, ◌+◌, ◌<◌, ◌≤◌, true, false, ltb, leb, ◌⊎◌, List, [], ◌∷◌, ◌++◌, map, length, get_or, replicate, None, sym, refl, ap, ◌∙◌, subst, inl, inr, arith}
-use Rattle.std.specs.List.{AllByRecursion as All}
+use Rattle.std.specs.List.{AllByRecursion}
 use Rattle.std.proofs.ByRecursion.{All-map, All-from_get_or, All-get_or, All-weaker}
 use Rattle.std.proofs.lemmas.List.{length-append, length_push, length-map, get_or_at, set_at, get_or-replicate, get_or_past, append_assoc}
 use Rattle.std.proofs.lemmas.Bool.{cases_lt, and_from, lt-ltb, le-leb, cond-true}
@@ -56,7 +56,7 @@ module _ (first : ℕ → ℕ) where
       ∙ ap (λ z. changed (length ys) (with_budget (first s.limit) z) None (fresh (ys ++ (s ∷ ss)))) here
       ∙ ap fresh (set_at ys s ss (given s) (length ys) refl ∙ sym (append_assoc ys (given s ∷ []) ss))
 
-  allots_after : (ys ss : List Stamp) (i : ℕ) → length ys ≡ i → All Blank ss → after (allots i ss) (fresh (ys ++ ss)) ≡ fresh (ys ++ map given ss)
+  allots_after : (ys ss : List Stamp) (i : ℕ) → length ys ≡ i → AllByRecursion Blank ss → after (allots i ss) (fresh (ys ++ ss)) ≡ fresh (ys ++ map given ss)
   allots_after ys [] i e all = refl
   allots_after ys (s ∷ ss) i e all =
       ap (λ u. after (allots (i + 1) ss) u) (ap (λ j. allotted j (first s.limit) (fresh (ys ++ (s ∷ ss)))) (sym e) ∙ one_allotted ys ss s all.0)
@@ -68,7 +68,7 @@ module _ (first : ℕ → ℕ) where
   sound_allots (s ∷ ss) i t h = sound_allots ss (i + 1) (allotted i (first s.limit) t) (allotted_sound i (first s.limit) t h)
 
 module _ (choice : Choice) (first : ℕ → ℕ) (next : Rule) (lawful : Lawful choice first next) (r : LineUp) (sealed : Sealed r) where
-  blank : All (Blank first) (initial r).stamps
+  blank : AllByRecursion (Blank first) (initial r).stamps
   blank = All-map (Blank first) (new_stamp (total_weight r)) r.applications
       (All-from_get_or (λ a. Blank first (new_stamp (total_weight r) a)) r.applications (application 0 0)
       (λ k h. let e = entitled (get_or r.applications k (application 0 0)) (sealed.each k (application 0 0) h) in
@@ -89,7 +89,7 @@ module _ (choice : Choice) (first : ℕ → ℕ) (next : Rule) (lawful : Lawful 
     pub idle : s.status ≡ Idle
     pub funded : Funded s
 
-  firsts : All First (beginning first r).table.stamps
+  firsts : AllByRecursion First (beginning first r).table.stamps
   firsts = All-map First (given first) (initial r).stamps
       (All-weaker (Blank first) (λ s. First (given first s)) (λ s b. record { idle = b.idle; funded = record { limit_low = b.limit_low; limit_high = b.limit_high; budget = b.fits } }) (initial r).stamps blank)
 

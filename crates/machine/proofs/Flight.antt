@@ -1,5 +1,5 @@
 -- What each call leaves of the flight and of the clock. Assumes nothing.
-use Rattle.std.proofs.Common.{◌≡◌, ℕ, ◌^◌, ◌≤◌, Bool, true, false, cond, ltb, leb, List, ◌∷◌, Some, None, Option, sym, refl, ap, ◌∙◌, arith}
+use Rattle.std.proofs.Common.{◌≡◌, ℕ, ◌^◌, ◌≤◌, Bool, true, false, cond, ltb, leb, Some, None, Option, sym, refl, ap, ◌∙◌, arith}
 use Rattle.std.proofs.lemmas.Bool.{or_parts, ltb-false}
 use Rattle.rosters.specs.declared.stamp.Status.{Status}
 use Rattle.rosters.specs.declared.stamp.Status.TheVariants.{Idle, Queued, Serving}
@@ -11,8 +11,8 @@ use Rattle.pools.specs.declared.request.Kind.TheVariants.{Asynchronous, Synchron
 use Rattle.pools.specs.declared.request.Request.{Request}
 use Rattle.pools.specs.declared.rule.Reason.{Reason}
 use Rattle.pools.specs.declared.rule.Reason.TheVariants.{Exhausted, HoldRanOut, RanDry}
-use Rattle.machine.specs.Machine.{Machine, Rule, Reply, sends, holds, nothing, with_table, with_clock, with_flight, with_until, retired, retired_serving, lapsed, begun, next_of, sent, sent_by, sent_reply, after_pick, pick_reply, picking, picking_reply, reaches, served_by, served_reply, waits, finished, reacted, reply, event, subject}
-use Rattle.machine.specs.Calls.{arrived, dispatched, dispatch_reply, completed, ticked, landed, joined, request, unless, arrival_refusal, dispatch_refusal, completion_refusal, tick_refusal, out_of_time, first_of}
+use Rattle.machine.specs.Machine.{Machine, Rule, Reply, sends, holds, nothing, with_table, with_clock, with_until, retired, retired_serving, lapsed, begun, next_of, sent, sent_by, sent_reply, after_pick, pick_reply, picking, picking_reply, reaches, served_by, served_reply, waits, finished, reacted, reply, event, subject}
+use Rattle.machine.specs.Calls.{arrived, dispatched, dispatch_reply, completed, ticked, landed, joined, request, unless, arrival_refusal, dispatch_refusal, completion_refusal, tick_refusal, out_of_time}
 use Rattle.machine.specs.declared.event.Event.TheVariants.{Arrival, Dispatch, Completion, Tick}
 use Rattle.machine.specs.declared.refusal.Refusal.{Refusal}
 use Rattle.machine.specs.declared.refusal.Refusal.TheVariants.{Time}

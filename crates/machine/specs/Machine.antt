@@ -1,6 +1,6 @@
 -- The machine: its state, and what the events of an accepted call make of it. It is the same for every
 -- pool and every budget rule, which it knows only by the pool's choice and the rule's next budget.
-use Rattle.std.specs.Prelude.{ℕ, ◌+◌, ◌-◌, ◌^◌, min, Bool, true, false, cond, List, [], ◌∷◌, map, length, Some, None, Option, nat_le, nat_lt}
+use Rattle.std.specs.Prelude.{ℕ, ◌+◌, ◌-◌, ◌^◌, min, Bool, cond, List, map, length, Some, None, Option, nat_le, nat_lt}
 use Rattle.rosters.specs.Rosters.{LineUp}
 use Rattle.rosters.specs.declared.stamp.Stamp.{Stamp}
 use Rattle.rosters.specs.declared.stamp.Status.{Status}

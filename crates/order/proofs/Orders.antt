@@ -1,11 +1,11 @@
 -- One request, and one budget, after the other.
-use Rattle.std.proofs.Common.{◌≡◌, ℕ, zero, suc, ◌+◌, ◌<◌, ◌≤◌, List, [], ◌∷◌, ◌++◌, length, get_or, drop, Some, None, Option, sym, refl, ap, ◌∙◌, inl, inr, ⊎_elim, arith}
+use Rattle.std.proofs.Common.{◌≡◌, ℕ, zero, suc, ◌+◌, ◌<◌, ◌≤◌, List, [], ◌∷◌, ◌++◌, length, get_or, drop, Some, None, sym, refl, ap, ◌∙◌, ⊎_elim, arith}
 use Rattle.std.specs.List.{remove, slice_get}
 use Rattle.std.proofs.lemmas.List.Edits.{length-remove}
 use Rattle.std.proofs.lemmas.List.{append_assoc, append-nil, drop_all, drop_more, get_or-set_same}
 use Rattle.std.proofs.lemmas.Option.{slice_get_past as nth_past}
 use Rattle.std.proofs.lemmas.Bool.{cases_lt}
-use Rattle.pools.specs.Lines.{Choice, line, shown, taken_lists}
+use Rattle.pools.specs.Lines.{Choice, line, taken_lists}
 use Rattle.pools.specs.declared.request.Request.{Request}
 use Rattle.pools.specs.declared.rule.Reason.{Reason}
 use Rattle.order.specs.Budgets.{budgets_from}

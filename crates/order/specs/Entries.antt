@@ -1,5 +1,5 @@
 -- Which numbers a line may have.
-use Rattle.std.specs.Prelude.{ℕ, ◌+◌, ◌^◌, Bool, cond, ◌&&◌, Some, None, Option, nat_le}
+use Rattle.std.specs.Prelude.{ℕ, ◌+◌, ◌^◌, cond, ◌&&◌, Some, None, Option, nat_le}
 use Rattle.order.specs.declared.entry.Entry.{Entry}
 use Rattle.order.specs.declared.entry.Entry.TheVariants.{Request, Rule}
 

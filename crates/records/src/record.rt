@@ -1,7 +1,6 @@
 //! Records put into a buffer.
 
 ghost use Rattle.std.specs.Prelude.{◌≡◌, ℕ, ◌+◌, ◌≤◌, List, length};
-ghost use Rattle.std.specs.List.{flat_map, AllByRecursion as All};
 ghost use Rattle.fields.specs.Buffers.{put};
 ghost use Rattle.records.specs.Layouts.{settings_bytes, settings_fits, application_bytes, application_fits, request_bytes, request_fits, event_bytes, event_fits};
 

@@ -1,6 +1,6 @@
 -- What the public calls add to the layers beneath them: the round trips. Assumes nothing.
 use Rattle.std.proofs.Common.{◌≡◌, ℕ, List, length, take, IfOk, Ok, Err, Result, sym}
-use Rattle.std.specs.List.{AllByRecursion as All}
+use Rattle.std.specs.List.{AllByRecursion}
 use Rattle.records.specs.declared.fault.Fault.{Fault}
 use Rattle.records.proofs.RecordTrips.{Byte}
 use Rattle.files.specs.Reading.{opened, read}
@@ -10,7 +10,7 @@ use Rattle.files.proofs.Accepted.{makes, written_again}
 use Rattle.trace.specs.View.{tables_of, parts_of, answered}
 use Rattle.trace.specs.declared.trace.Trace.{Trace}
 
-pub rewritten : (bs : List ℕ) (r : Result Trace Fault) → All Byte bs → answered r ≡ opened bs → IfOk r (λ t. Makes (tables_of t) bs)
+pub rewritten : (bs : List ℕ) (r : Result Trace Fault) → AllByRecursion Byte bs → answered r ≡ opened bs → IfOk r (λ t. Makes (tables_of t) bs)
 rewritten bs (Ok t) each found = makes bs (parts_of t) each (sym found)
 rewritten bs (Err e) each found = tt
 

@@ -1,5 +1,5 @@
 use Rattle.std.proofs.Common.{◌≡◌, ◌+◌, length, take, sym, ap, ◌∙◌, subst, arith}
-use Rattle.std.specs.List.{flat_map, AllByRecursion as All}
+use Rattle.std.specs.List.{flat_map, AllByRecursion}
 use Rattle.std.proofs.lemmas.List.{take_all, length-append}
 use Rattle.std.proofs.ByRecursion.{All-more}
 use Rattle.fields.specs.Buffers.{put}
@@ -38,5 +38,5 @@ returns g c =
     record {
       end = c.loop-i.invariant.0 ∙ ap (λ xs. c.args.at + length (flat_map laid xs)) all;
       after = c.loop-i.invariant.1 ∙ ap (λ xs. put c.args.at (flat_map laid xs) c.args.out.now) all;
-      within = subst (All g.R.Record.fits) all c.loop-i.invariant.2;
+      within = subst (AllByRecursion g.R.Record.fits) all c.loop-i.invariant.2;
     }

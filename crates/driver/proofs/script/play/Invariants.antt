@@ -1,4 +1,4 @@
-use Rattle.std.proofs.Common.{◌≡◌, ◌++◌, length, take, drop}
+use Rattle.std.proofs.Common.{◌≡◌, ◌++◌, take, drop}
 use Rattle.driver.specs.Runs.{Holding, outcomes_of}
 use Rattle.driver.proofs.script.play.Given as goal
 

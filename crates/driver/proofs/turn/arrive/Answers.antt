@@ -1,4 +1,4 @@
-use Rattle.std.proofs.Common.{◌≡◌, ◌+◌, sym, refl, ap, ◌∙◌, subst}
+use Rattle.std.proofs.Common.{◌+◌, sym, ◌∙◌, subst}
 use Rattle.machine.specs.Calls.{arrival_refusal}
 use Rattle.driver.specs.Runs.{Holding}
 use Rattle.driver.specs.declared.command.Outcome.TheVariants as O

@@ -1,4 +1,4 @@
-use Rattle.std.proofs.Common.{◌≡◌, Some, None, sym, ap, ◌∙◌, subst}
+use Rattle.std.proofs.Common.{Some, None, sym, ◌∙◌, subst}
 use Rattle.driver.specs.Runs.{Holding}
 use Rattle.driver.proofs.Holdings.{completed_after, done_outcome, done_holding, back_outcome, back_holding}
 use Rattle.driver.proofs.turn.complete.Goals as goal

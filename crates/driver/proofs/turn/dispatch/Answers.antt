@@ -1,4 +1,4 @@
-use Rattle.std.proofs.Common.{◌≡◌, sym, ap, ◌∙◌, subst}
+use Rattle.std.proofs.Common.{sym, ap, ◌∙◌, subst}
 use Rattle.machine.proofs.Flight.{flight_by}
 use Rattle.machine.specs.Calls.{dispatch_refusal, dispatch_reply}
 use Rattle.scheduler.specs.Answers.{said}
@@ -6,8 +6,8 @@ use Rattle.driver.specs.Runs.{Holding, replied}
 use Rattle.driver.proofs.Holdings.{accepted, free, dispatched_holding}
 use Rattle.driver.proofs.turn.dispatch.Goals as goal
 
-pub taken-over-requires : goal.taken-over-requires
-taken-over-requires g c =
+pub taken_over-requires : goal.taken_over-requires
+taken_over-requires g c =
     free g.S.Calls.choice g.S.Calls.next (g.S.Calls.state c.args.scheduler.now) c.args.token c.requires c.args.time c.in-Ok.answer c.in-Ok.ensures.answer
 
 pub returns-in-Ok : goal.returns-in-Ok
@@ -16,7 +16,7 @@ returns-in-Ok g c =
     let told = c.in-Ok.ensures in
     let reply = said c.in-Ok.answer in
     record {
-      outcome = c.taken-over.ensures.outcome ∙ accepted (dispatch_refusal c.args.time m) reply (dispatch_reply g.S.Calls.choice g.S.Calls.next c.args.time m) replied told.answer;
+      outcome = c.taken_over.ensures.outcome ∙ accepted (dispatch_refusal c.args.time m) reply (dispatch_reply g.S.Calls.choice g.S.Calls.next c.args.time m) replied told.answer;
       after = told.after;
-      holding = subst (λ n. Holding n c.taken-over.result.token) (sym told.after) (dispatched_holding g.S.Calls.choice g.S.Calls.next m c.args.token c.requires c.args.time reply c.taken-over.result.token told.answer (c.taken-over.ensures.held ∙ ap (flight_by reply) (sym c.requires.flight)));
+      holding = subst (λ n. Holding n c.taken_over.result.token) (sym told.after) (dispatched_holding g.S.Calls.choice g.S.Calls.next m c.args.token c.requires c.args.time reply c.taken_over.result.token told.answer (c.taken_over.ensures.held ∙ ap (flight_by reply) (sym c.requires.flight)));
     }

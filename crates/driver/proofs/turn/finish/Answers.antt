@@ -1,4 +1,4 @@
-use Rattle.std.proofs.Common.{◌≡◌, Some, Err, sym, subst}
+use Rattle.std.proofs.Common.{◌≡◌, Some, Err, subst}
 use Rattle.machine.specs.Calls.{completion_refusal}
 use Rattle.scheduler.specs.Answers.{completion_answer, request_of}
 use Rattle.driver.specs.Runs.{Holding}
