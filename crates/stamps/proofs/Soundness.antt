@@ -7,7 +7,7 @@ use native.Mathlib.Bridge.{le_prop}
 use Rattle.std.proofs.lemmas.Bool.{cases_eq, cond_both, and_parts, ltb-true, leb-true, ne_eqb, eq-eqb, true≢false, and_from, lt-ltb}
 use Rattle.rosters.specs.Stamps.{by_status, is_idle, is_queued, is_serving, no_stamp, may_have}
 use Rattle.stamps.specs.Rows.{position, paid, wake_stamp, serve_stamp, charge_stamp, with_budget, rest_stamp, requeue_stamp}
-use Rattle.stamps.specs.Tables.{Table, row, Modest, modest_prop, Sound, Sound-prop, is_application}
+use Rattle.stamps.specs.Tables.{Table, row, Modest, modest_prop, Sound, sound_prop, is_application}
 use Rattle.stamps.specs.Known.{Current, Resting}
 use Rattle.stamps.specs.Steps.{can_wake, woken, can_allot, allotted, may_requeue, eligible, start_before, pushed_to, pick_time, finishing, pick_beside, picked_by, picked, fits, charged_to, charged, requeued_from, requeued, rested_from, rested}
 use Rattle.least.specs.Choice.{place, FirstLeast, NoneEligible}
@@ -24,7 +24,7 @@ modest_once n s = modest_prop le_prop le_prop le_prop le_prop le_prop le_prop le
 
 sound_once : (t : Table) → IsProp (Sound t)
 sound_once t =
-    Sound-prop le_prop le_prop le_prop
+    sound_prop le_prop le_prop le_prop
     (Π_prop (λ k. Π_prop (λ h. modest_once t.sent (row t k))))
     (Π_prop (λ k. Π_prop (λ h. Bool-set (is_serving (row t k)) (is_application t.serving k))))
     (Π_prop (λ k. Π_prop (λ e. le_prop)))

@@ -42,4 +42,4 @@ pub record Sound (t : Table) : Type 0 where
   -- the row that serves is the one named, and there is no other
   pub one : (k : ℕ) → k < length t.stamps → is_serving (row t k) ≡ is_application t.serving k
   pub within : (k : ℕ) → t.serving ≡ Some k → k < length t.stamps
-  deriving IsProp as Sound-prop
+  deriving IsProp as sound_prop
