@@ -44,76 +44,12 @@ pub struct Tables {
     pub events: Vec<(u64, Event)>,
 }
 
-/// A file without a fault. Its bodies stay where they stand in the file, so that it can be played
-/// without copying its records into tables first.
-pub struct Sound<'a> {
-    pub settings: Settings,
-    applications: &'a [[u8; 8]],
-    requests: &'a [[u8; 16]],
-    events: &'a [[u8; 16]],
+fn u32_at(bytes: &[u8], at: usize) -> u32 {
+    u32::from_le_bytes(bytes[at..at + 4].try_into().unwrap())
 }
 
-impl<'a> Sound<'a> {
-    /// The layers in their order; in each the first fault counts.
-    pub fn read(bytes: &'a [u8]) -> Result<Sound<'a>, Fault> {
-        let [applications_at, requests_at, events_at, end] = layout(bytes)?;
-        let settings: &[u8; 8] = bytes[32..40].try_into().unwrap();
-        let applications = bytes[applications_at..requests_at].as_chunks().0;
-        let requests = bytes[requests_at..events_at].as_chunks().0;
-        let events = bytes[events_at..end].as_chunks().0;
-        if !settings_fit(settings) {
-            return Err(Fault { layer: 2, number: 15, place: 32 });
-        }
-        check_records(applications, applications_at, application_fits)?;
-        check_records(requests, requests_at, request_fits)?;
-        check_events(events, events_at, requests.len())?;
-        let sound = Sound { settings: settings_of(settings), applications, requests, events };
-        sound.check_roster()?;
-        Ok(sound)
-    }
-
-    pub fn applications(&self) -> impl ExactSizeIterator<Item = Application> + 'a {
-        self.applications.iter().map(application_of)
-    }
-
-    pub fn requests(&self) -> impl ExactSizeIterator<Item = Request> + 'a {
-        self.requests.iter().map(request_of)
-    }
-
-    pub fn events(&self) -> impl ExactSizeIterator<Item = (u64, Event)> + 'a {
-        self.events.iter().map(event_of)
-    }
-
-    /// The request record of an arrival: every arrival of this file names one that is there.
-    pub fn request(&self, index: u32) -> Request {
-        request_of(&self.requests[index as usize])
-    }
-
-    fn check_roster(&self) -> Result<(), Fault> {
-        let fault = |number, place| Err(Fault { layer: 3, number, place });
-        if !(1..=1_000_000).contains(&self.settings.hold) {
-            return fault(4, 0);
-        }
-        for (i, a) in self.applications().enumerate() {
-            if !(1..=10).contains(&a.weight) {
-                return fault(2, i + 1);
-            }
-            if !(256..=65_536).contains(&a.limit) {
-                return fault(3, i + 1);
-            }
-        }
-        Ok(())
-    }
-}
-
-pub fn decode(bytes: &[u8]) -> Result<Tables, Fault> {
-    let sound = Sound::read(bytes)?;
-    Ok(Tables {
-        settings: sound.settings,
-        applications: sound.applications().collect(),
-        requests: sound.requests().collect(),
-        events: sound.events().collect(),
-    })
+fn u64_at(bytes: &[u8], at: usize) -> u64 {
+    u64::from_le_bytes(bytes[at..at + 8].try_into().unwrap())
 }
 
 /// Where the bodies of applications, requests and events begin, and where the file ends.
@@ -138,74 +74,79 @@ fn layout(bytes: &[u8]) -> Result<[usize; 4], Fault> {
     Ok(starts)
 }
 
-fn check_records<const WIDTH: usize>(records: &[[u8; WIDTH]], from: usize, fits: fn(&[u8; WIDTH]) -> bool) -> Result<(), Fault> {
-    match records.iter().position(|b| !fits(b)) {
-        None => Ok(()),
-        Some(i) => Err(Fault { layer: 2, number: 15, place: from + WIDTH * i }),
-    }
+pub fn settings_of(b: &[u8]) -> Option<Settings> {
+    (b[4] < 2 && b[5] < 2 && b[6..8] == [0, 0]).then(|| Settings { hold: u32_at(b, 0), feedback: b[4] == 1, c_look: b[5] == 1 })
 }
 
-fn check_events(events: &[[u8; 16]], from: usize, requests: usize) -> Result<(), Fault> {
-    // How many numbers an event of each code may come with: an arrival those of the requests, the
-    // others 0 alone, and what is no code none.
-    let numbers = [0, requests, 1, 1, 1];
-    let fits = |b: &[u8; 16]| numbers.get(event_code(b)).is_some_and(|&numbers| (u32_at(b, 12) as usize) < numbers);
-    match events.iter().position(|b| !fits(b)) {
-        None => Ok(()),
-        Some(i) => {
-            let number = if event_code(&events[i]) == 1 { 16 } else { 15 };
-            Err(Fault { layer: 2, number, place: from + 16 * i })
+pub fn application_of(b: &[u8]) -> Option<Application> {
+    (b[1..4] == [0; 3]).then(|| Application { weight: b[0], limit: u32_at(b, 4) })
+}
+
+pub fn request_of(b: &[u8]) -> Option<Request> {
+    (b[11] < 2 && b[12..16] == [0; 4]).then(|| Request {
+        first: u64_at(b, 0),
+        size: u16::from_le_bytes([b[8], b[9]]),
+        application: b[10],
+        synchronous: b[11] == 1,
+    })
+}
+
+pub fn event_of(b: &[u8]) -> Option<(u64, Event)> {
+    if b[9..12] != [0; 3] {
+        return None;
+    }
+    let event = match (b[8], u32_at(b, 12)) {
+        (1, request) => Event::Arrival(request),
+        (2, 0) => Event::Dispatch,
+        (3, 0) => Event::Completion,
+        (4, 0) => Event::Tick,
+        _ => return None,
+    };
+    Some((u64_at(b, 0), event))
+}
+
+/// The records of a body, or the offset of the first that is none.
+fn records<T>(bytes: &[u8], from: usize, to: usize, width: usize, of: fn(&[u8]) -> Option<T>) -> Result<Vec<T>, Fault> {
+    let pieces = bytes[from..to].chunks_exact(width);
+    pieces.enumerate().map(|(i, b)| of(b).ok_or(Fault { layer: 2, number: 15, place: from + width * i })).collect()
+}
+
+fn events(bytes: &[u8], from: usize, to: usize, requests: usize) -> Result<Vec<(u64, Event)>, Fault> {
+    let mut all = Vec::with_capacity((to - from) / 16);
+    for (i, b) in bytes[from..to].chunks_exact(16).enumerate() {
+        let event = event_of(b).ok_or(Fault { layer: 2, number: 15, place: from + 16 * i })?;
+        if matches!(event.1, Event::Arrival(request) if request as usize >= requests) {
+            return Err(Fault { layer: 2, number: 16, place: from + 16 * i });
+        }
+        all.push(event);
+    }
+    Ok(all)
+}
+
+fn roster(settings: &Settings, applications: &[Application]) -> Result<(), Fault> {
+    let fault = |number, place| Err(Fault { layer: 3, number, place });
+    if !(1..=1_000_000).contains(&settings.hold) {
+        return fault(4, 0);
+    }
+    for (i, a) in applications.iter().enumerate() {
+        if !(1..=10).contains(&a.weight) {
+            return fault(2, i + 1);
+        }
+        if !(256..=65_536).contains(&a.limit) {
+            return fault(3, i + 1);
         }
     }
+    Ok(())
 }
 
-fn settings_fit(b: &[u8; 8]) -> bool {
-    b[4] < 2 && b[5] < 2 && b[6..] == [0; 2]
-}
-
-fn application_fits(b: &[u8; 8]) -> bool {
-    b[1..4] == [0; 3]
-}
-
-fn request_fits(b: &[u8; 16]) -> bool {
-    b[11] < 2 && b[12..] == [0; 4]
-}
-
-/// What happens, with the three blank bytes behind it as the number's upper ones: they are zero
-/// exactly if the whole is 1 to 4.
-fn event_code(b: &[u8; 16]) -> usize {
-    u32_at(b, 8) as usize
-}
-
-fn settings_of(b: &[u8; 8]) -> Settings {
-    Settings { hold: u32_at(b, 0), feedback: b[4] == 1, c_look: b[5] == 1 }
-}
-
-fn application_of(b: &[u8; 8]) -> Application {
-    Application { weight: b[0], limit: u32_at(b, 4) }
-}
-
-fn request_of(b: &[u8; 16]) -> Request {
-    Request { first: u64_at(b, 0), size: u16::from_le_bytes([b[8], b[9]]), application: b[10], synchronous: b[11] == 1 }
-}
-
-/// Of an event whose code was looked at before.
-fn event_of(b: &[u8; 16]) -> (u64, Event) {
-    let event = match event_code(b) {
-        1 => Event::Arrival(u32_at(b, 12)),
-        2 => Event::Dispatch,
-        3 => Event::Completion,
-        _ => Event::Tick,
-    };
-    (u64_at(b, 0), event)
-}
-
-fn u32_at(bytes: &[u8], at: usize) -> u32 {
-    u32::from_le_bytes(bytes[at..at + 4].try_into().unwrap())
-}
-
-fn u64_at(bytes: &[u8], at: usize) -> u64 {
-    u64::from_le_bytes(bytes[at..at + 8].try_into().unwrap())
+pub fn decode(bytes: &[u8]) -> Result<Tables, Fault> {
+    let [applications_at, requests_at, events_at, end] = layout(bytes)?;
+    let settings = settings_of(&bytes[32..40]).ok_or(Fault { layer: 2, number: 15, place: 32 })?;
+    let applications = records(bytes, applications_at, requests_at, 8, application_of)?;
+    let requests = records(bytes, requests_at, events_at, 16, request_of)?;
+    let events = events(bytes, events_at, end, requests.len())?;
+    roster(&settings, &applications)?;
+    Ok(Tables { settings, applications, requests, events })
 }
 
 pub fn settings_bytes(s: &Settings) -> [u8; 8] {
