@@ -17,6 +17,13 @@ use Rattle.driver.specs.declared.command.Command.TheVariants.{Arrival, Dispatch,
 use Rattle.driver.specs.declared.command.Outcome.{Outcome}
 use Rattle.driver.specs.declared.command.Outcome.TheVariants.{Accepted, Sent, Held, Nothing, Done, Ticked, Refused}
 
+-- the time that a command brings
+abbrev pub time_of : Command → ℕ
+time_of (Arrival time a first size kind) = time
+time_of (Dispatch time) = time
+time_of (Completion time) = time
+time_of (Tick time) = time
+
 -- a refusal, or what else the call came to
 abbrev pub or_refused : Option Refusal → Outcome → Outcome
 or_refused None o = o

@@ -1,5 +1,8 @@
 //! What a script asks for, and what comes of it.
 
+ghost use Rattle.std.specs.Prelude.{◌≡◌};
+ghost use Rattle.driver.specs.Runs.{time_of};
+
 use pools::request::{Kind, Request};
 
 /// A call of a script. A completion is of the request in flight.
@@ -15,6 +18,26 @@ pub enum Command {
     Dispatch(u64),
     Completion(u64),
     Tick(u64),
+}
+
+impl Command {
+    /// The time that the command brings.
+    pub fn time(self) -> u64
+        ensures { result ≡ time_of self }
+    {
+        match self {
+            Command::Arrival {
+                time,
+                application: _,
+                first: _,
+                size: _,
+                kind: _,
+            } => time,
+            Command::Dispatch(time) => time,
+            Command::Completion(time) => time,
+            Command::Tick(time) => time,
+        }
+    }
 }
 
 /// What a call came to.

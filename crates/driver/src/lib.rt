@@ -4,4 +4,4 @@
 
 pub mod command;
 pub mod script;
-mod turn;
+pub mod turn;

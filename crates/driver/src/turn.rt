@@ -15,9 +15,9 @@ use scheduler::calls::Calls;
 use scheduler::token::{Dispatched, Returned, Token};
 
 /// What a call came to, and the token that is held after it.
-pub(crate) struct Turn {
-    pub(crate) outcome: Outcome,
-    pub(crate) token: Option<Token>,
+pub struct Turn {
+    pub outcome: Outcome,
+    pub token: Option<Token>,
 }
 
 fn refused(refusal: Refusal) -> Outcome
@@ -27,7 +27,7 @@ fn refused(refusal: Refusal) -> Outcome
 }
 
 /// One call of the script.
-pub(crate) fn step<S: Calls>(scheduler: &mut S, command: Command, token: Option<Token>) -> Turn
+pub fn step<S: Calls>(scheduler: &mut S, command: Command, token: Option<Token>) -> Turn
     requires { Holding (S.Calls.state scheduler.old) token }
     ensures outcome { result.outcome ≡ outcome S.Calls.choice S.Calls.next (command) (S.Calls.state scheduler.old) }
     ensures after { S.Calls.state scheduler.new ≡ acted S.Calls.choice S.Calls.next (command) (S.Calls.state scheduler.old) }
@@ -156,7 +156,7 @@ fn tick<S: Calls>(scheduler: &mut S, time: u64, token: Option<Token>) -> Turn
 }
 
 /// A token that is left is completed, at the time that it is. Such a completion is never refused.
-pub(crate) fn finish<S: Calls>(scheduler: &mut S, token: Option<Token>)
+pub fn finish<S: Calls>(scheduler: &mut S, token: Option<Token>)
     requires { Holding (S.Calls.state scheduler.old) token }
 {
     let Some(token) = token else {
