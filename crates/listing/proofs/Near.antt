@@ -1,10 +1,9 @@
 -- The numbers of a send are small: a request that is sent was waiting. Assumes nothing.
-use Rattle.std.proofs.Common.{◌≡◌, ℕ, ◌+◌, ◌^◌, ◌≤◌, Bool, true, false, cond, List, ◌∷◌, Some, None, Option, sym, refl, ap, ◌∙◌, subst, arith}
+use Rattle.std.proofs.Common.{◌≡◌, ℕ, ◌+◌, Bool, true, false, cond, List, ◌∷◌, Some, None, Option, sym, refl, ap, ◌∙◌, subst, arith}
 use Rattle.std.specs.List.{slice_get}
-use Rattle.histories.specs.History.{Call, arrival, dispatch, completion, tick, History, entry}
-use Rattle.histories.specs.Promises.{Run, after, answer, after_call, after_entry}
-use Rattle.histories.specs.Reachable.{StaysInBounds}
-use Rattle.histories.proofs.Reachable.{own_entry}
+use Rattle.histories.specs.History.{Call, arrival, dispatch, completion, tick, entry}
+use Rattle.histories.specs.Promises.{Lawful, Sealed, Run, after, answer, after_call}
+use Rattle.histories.proofs.Reachable.{in_bounds, own_entry}
 use Rattle.machine.proofs.Flight.{begun_lists, in_time}
 use Rattle.machine.specs.Calls.{dispatch_refusal, dispatch_reply, completion_refusal, arrival_refusal, tick_refusal, is_some}
 use Rattle.machine.specs.Machine.{Machine, Rule, Reply, sends, holds, nothing, beginning, begun, next_of, pick_reply, picking_reply, sent_reply, served_reply, reaches, reply, retired, subject}
@@ -22,8 +21,7 @@ use Rattle.listing.specs.Near.{Near, StaysNear, Small}
 use Rattle.driver.specs.Runs.{acted, completion_after, completion_outcome, or_refused, outcome, replied, time_of}
 use Rattle.driver.specs.declared.command.Command.{Command}
 use Rattle.driver.specs.declared.command.Command.TheVariants.{Arrival, Dispatch, Completion, Tick}
-use Rattle.driver.specs.declared.command.Outcome.{Outcome}
-use Rattle.driver.specs.declared.command.Outcome.TheVariants.{Accepted, Sent, Held, Nothing, Done, Ticked, Refused}
+use Rattle.driver.specs.declared.command.Outcome.TheVariants.{Accepted, Done, Ticked}
 
 -- a request of these lines
 abbrev Waits : List (List Request) → Request → Type 0
@@ -67,7 +65,7 @@ module _ (choice : Choice) (next : Rule) where
   pub small : (c : Command) (m : Machine) → Near m → Small (time_of c) (outcome choice next c m)
   small (Arrival time a first size kind) m near = go (arrival_refusal time a first size m)
     where
-      go : (o : Option Refusal) → Small time (or_refused o (Accepted a (m.count + 1)))
+      go : (o : Option Refusal) → Small time (or_refused o (Accepted (m.count + 1)))
       go None = tt
       go (Some r) = tt
   small (Dispatch time) m near = go (dispatch_refusal time m) (dispatch_reply choice next time m) refl refl
@@ -113,8 +111,8 @@ module _ (choice : Choice) (next : Rule) where
   stays_near (Tick time) m stays = called (tick time) m stays
 
 -- a sealed scheduler begins so
-pub near_start : (choice : Choice) (first : ℕ → ℕ) (next : Rule) (r : LineUp) → StaysInBounds choice first next r → StaysNear choice next (beginning first r)
-near_start choice first next r bounds h run k i q e =
+pub near_start : (choice : Choice) (first : ℕ → ℕ) (next : Rule) (r : LineUp) → Lawful choice first next → Sealed r → StaysNear choice next (beginning first r)
+near_start choice first next r lawful sealed h run k i q e =
     let m = after choice next (beginning first r) h in
-    let proper = (bounds m (record { history = h; runs = run; ends = refl })).waiting k i q e in
+    let proper = (in_bounds choice first next r lawful sealed m (record { history = h; runs = run; ends = refl })).waiting k i q e in
     (omega (arith, proper.end_high), proper.size_high)

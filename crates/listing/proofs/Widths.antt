@@ -1,8 +1,10 @@
 -- How long a line can be. Assumes nothing.
-use Rattle.std.proofs.Common.{◌≡◌, ℕ, ◌+◌, ◌^◌, ◌<◌, ◌≤◌, List, [], ◌∷◌, ◌++◌, length, codes, decimal, ap, arith, lit<, lit≤}
+use Rattle.std.proofs.Common.{ℕ, ◌+◌, ◌^◌, ◌<◌, ◌≤◌, List, [], ◌∷◌, length, codes, decimal, arith, lit<, lit≤}
 use Rattle.std.proofs.lemmas.Fmt.{length-decimal-le}
 use Rattle.std.proofs.lemmas.List.{length-append}
 use Rattle.listing.specs.Near.{Small}
+use Rattle.driver.specs.Runs.{time_of}
+use Rattle.driver.specs.declared.command.Command.{Command}
 use Rattle.driver.specs.declared.command.Outcome.TheVariants.{Accepted, Sent, Held, Nothing, Done, Ticked, Refused}
 use Rattle.pools.specs.declared.request.Request.{Request}
 use Rattle.records.specs.Faults.{cause_number, layer_number}
@@ -11,7 +13,7 @@ use Rattle.records.specs.declared.fault.Cause.TheVariants.{TooShort, Layout, Byt
 use Rattle.records.specs.declared.fault.Fault.{Fault}
 use Rattle.records.specs.declared.fault.Layer.{Layer}
 use Rattle.records.specs.declared.fault.Layer.TheVariants.{Contents, Records, Roster}
-use Rattle.listing.specs.Lines.{event_line, fault_line, share_line, spaced, text}
+use Rattle.listing.specs.Lines.{application_of, event_line, fault_line, share_line, spaced, text}
 
 -- the rest of a line has at most k bytes
 pub record Rest (fs : List (List ℕ)) (k : ℕ) : Type 0 where
@@ -69,38 +71,38 @@ fault_short f hp =
     (more (decimal (cause_number f.number)) 3 (digits_8 (cause_number f.number) (cause_low f.number)) (more (decimal f.place) 20 (digits_64 f.place hp) ends))) in
     omega (arith, most)
 
--- an event's line, by its time and what came of it, where each number fits its type
-pub accepted_short : (t a n : ℕ) → t < 2 ^ 64 → a < 2 ^ 8 → n < 2 ^ 64 → length (event_line t (Accepted a n)) ≤ 64
-accepted_short t a n ht ha hn =
-    let most = line (decimal t) 20 (digits_64 t ht) (more (codes "arrive") 6 (lit≤ tt) (more (decimal a) 3 (digits_8 a ha) (more (decimal n) 20 (digits_64 n hn) ends))) in
+-- an event's line, by the command and what came of it, where each number fits its type
+pub accepted_short : (c : Command) (n : ℕ) → time_of c < 2 ^ 64 → application_of c < 2 ^ 8 → n < 2 ^ 64 → length (event_line c (Accepted n)) ≤ 64
+accepted_short c n ht ha hn =
+    let most = line (decimal (time_of c)) 20 (digits_64 (time_of c) ht) (more (codes "arrive") 6 (lit≤ tt) (more (decimal (application_of c)) 3 (digits_8 (application_of c) ha) (more (decimal n) 20 (digits_64 n hn) ends))) in
     omega (arith, most)
 
-pub sent_short : (t : ℕ) (q : Request) → Small t (Sent q) → q.application < 2 ^ 8 → q.number < 2 ^ 64 → length (event_line t (Sent q)) ≤ 64
-sent_short t q small ha hn =
+pub sent_short : (c : Command) (q : Request) → Small (time_of c) (Sent q) → q.application < 2 ^ 8 → q.number < 2 ^ 64 → length (event_line c (Sent q)) ≤ 64
+sent_short c q small ha hn =
     let most =
-    line (decimal t) 13 (digits_40 t small.0)
+    line (decimal (time_of c)) 13 (digits_40 (time_of c) small.0)
     (more (codes "send") 4 (lit≤ tt)
     (more (decimal q.application) 3 (digits_8 q.application ha)
     (more (decimal q.number) 20 (digits_64 q.number hn) (more (decimal q.first) 13 (digits_40 q.first small.1) (more (decimal q.size) 3 (length-decimal-le 3 q.size (lit< tt) (omega (arith, small.2)) (omega (arith, small.2))) ends))))) in
     omega (arith, most)
 
-pub held_short : (t k u : ℕ) → t < 2 ^ 64 → k < 2 ^ 8 → u < 2 ^ 64 → length (event_line t (Held k u)) ≤ 64
-held_short t k u ht hk hu =
-    let most = line (decimal t) 20 (digits_64 t ht) (more (codes "hold") 4 (lit≤ tt) (more (decimal k) 3 (digits_8 k hk) (more (decimal u) 20 (digits_64 u hu) ends))) in
+pub held_short : (c : Command) (k u : ℕ) → time_of c < 2 ^ 64 → k < 2 ^ 8 → u < 2 ^ 64 → length (event_line c (Held k u)) ≤ 64
+held_short c k u ht hk hu =
+    let most = line (decimal (time_of c)) 20 (digits_64 (time_of c) ht) (more (codes "hold") 4 (lit≤ tt) (more (decimal k) 3 (digits_8 k hk) (more (decimal u) 20 (digits_64 u hu) ends))) in
     omega (arith, most)
 
-pub nothing_short : (t : ℕ) → t < 2 ^ 64 → length (event_line t Nothing) ≤ 64
-nothing_short t ht = let most = line (decimal t) 20 (digits_64 t ht) (more (codes "none") 4 (lit≤ tt) ends) in omega (arith, most)
+pub nothing_short : (c : Command) → time_of c < 2 ^ 64 → length (event_line c Nothing) ≤ 64
+nothing_short c ht = let most = line (decimal (time_of c)) 20 (digits_64 (time_of c) ht) (more (codes "none") 4 (lit≤ tt) ends) in omega (arith, most)
 
-pub done_short : (t n : ℕ) → t < 2 ^ 64 → n < 2 ^ 64 → length (event_line t (Done n)) ≤ 64
-done_short t n ht hn =
-    let most = line (decimal t) 20 (digits_64 t ht) (more (codes "done") 4 (lit≤ tt) (more (decimal n) 20 (digits_64 n hn) ends)) in
+pub done_short : (c : Command) (n : ℕ) → time_of c < 2 ^ 64 → n < 2 ^ 64 → length (event_line c (Done n)) ≤ 64
+done_short c n ht hn =
+    let most = line (decimal (time_of c)) 20 (digits_64 (time_of c) ht) (more (codes "done") 4 (lit≤ tt) (more (decimal n) 20 (digits_64 n hn) ends)) in
     omega (arith, most)
 
-pub ticked_short : (t : ℕ) → t < 2 ^ 64 → length (event_line t Ticked) ≤ 64
-ticked_short t ht = let most = line (decimal t) 20 (digits_64 t ht) (more (codes "tick") 4 (lit≤ tt) ends) in omega (arith, most)
+pub ticked_short : (c : Command) → time_of c < 2 ^ 64 → length (event_line c Ticked) ≤ 64
+ticked_short c ht = let most = line (decimal (time_of c)) 20 (digits_64 (time_of c) ht) (more (codes "tick") 4 (lit≤ tt) ends) in omega (arith, most)
 
-pub refused_short : (t n : ℕ) → t < 2 ^ 64 → n < 2 ^ 8 → length (event_line t (Refused n)) ≤ 64
-refused_short t n ht hn =
-    let most = line (decimal t) 20 (digits_64 t ht) (more (codes "refuse") 6 (lit≤ tt) (more (decimal n) 3 (digits_8 n hn) ends)) in
+pub refused_short : (c : Command) (n : ℕ) → time_of c < 2 ^ 64 → n < 2 ^ 8 → length (event_line c (Refused n)) ≤ 64
+refused_short c n ht hn =
+    let most = line (decimal (time_of c)) 20 (digits_64 (time_of c) ht) (more (codes "refuse") 6 (lit≤ tt) (more (decimal n) 3 (digits_8 n hn) ends)) in
     omega (arith, most)

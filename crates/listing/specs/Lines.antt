@@ -1,6 +1,9 @@
 -- The lines of a listing: words, and numbers in decimal, with one space between two of them and a newline
 -- behind the last.
 use Rattle.std.specs.Prelude.{ℕ, List, [], ◌∷◌, ◌++◌, map, codes, decimal}
+use Rattle.driver.specs.Runs.{time_of}
+use Rattle.driver.specs.declared.command.Command.{Command}
+use Rattle.driver.specs.declared.command.Command.TheVariants.{Arrival, Dispatch, Completion, Tick}
 use Rattle.driver.specs.declared.command.Outcome.{Outcome}
 use Rattle.driver.specs.declared.command.Outcome.TheVariants.{Accepted, Sent, Held, Nothing, Done, Ticked, Refused}
 use Rattle.records.specs.Faults.{layer_number, cause_number}
@@ -15,15 +18,22 @@ abbrev pub text : List (List ℕ) → List ℕ
 text [] = 10 ∷ []
 text (f ∷ fs) = f ++ spaced fs
 
--- the line of an event, by its time and what came of it
-abbrev pub event_line : ℕ → Outcome → List ℕ
-event_line time (Accepted a n) = text (decimal time ∷ codes "arrive" ∷ decimal a ∷ decimal n ∷ [])
-event_line time (Sent q) = text (decimal time ∷ codes "send" ∷ decimal q.application ∷ decimal q.number ∷ decimal q.first ∷ decimal q.size ∷ [])
-event_line time (Held k until) = text (decimal time ∷ codes "hold" ∷ decimal k ∷ decimal until ∷ [])
-event_line time Nothing = text (decimal time ∷ codes "none" ∷ [])
-event_line time (Done n) = text (decimal time ∷ codes "done" ∷ decimal n ∷ [])
-event_line time Ticked = text (decimal time ∷ codes "tick" ∷ [])
-event_line time (Refused n) = text (decimal time ∷ codes "refuse" ∷ decimal n ∷ [])
+-- the application that an arrival is of; only an arrival is accepted, so the other calls' 0 is never put
+abbrev pub application_of : Command → ℕ
+application_of (Arrival time a first size kind) = a
+application_of (Dispatch time) = 0
+application_of (Completion time) = 0
+application_of (Tick time) = 0
+
+-- the line of an event, by the command and what came of it
+abbrev pub event_line : Command → Outcome → List ℕ
+event_line c (Accepted n) = text (decimal (time_of c) ∷ codes "arrive" ∷ decimal (application_of c) ∷ decimal n ∷ [])
+event_line c (Sent q) = text (decimal (time_of c) ∷ codes "send" ∷ decimal q.application ∷ decimal q.number ∷ decimal q.first ∷ decimal q.size ∷ [])
+event_line c (Held k until) = text (decimal (time_of c) ∷ codes "hold" ∷ decimal k ∷ decimal until ∷ [])
+event_line c Nothing = text (decimal (time_of c) ∷ codes "none" ∷ [])
+event_line c (Done n) = text (decimal (time_of c) ∷ codes "done" ∷ decimal n ∷ [])
+event_line c Ticked = text (decimal (time_of c) ∷ codes "tick" ∷ [])
+event_line c (Refused n) = text (decimal (time_of c) ∷ codes "refuse" ∷ decimal n ∷ [])
 
 -- the line of an application: its number, its weight, and the sectors that were sent for it
 abbrev pub share_line : ℕ → ℕ → ℕ → List ℕ

@@ -19,7 +19,7 @@ StaysNear choice next m = (h : History) → Run choice next m h → Near (after 
 
 -- the time and the request of a send: neither is large
 abbrev pub Small : ℕ → Outcome → Type 0
-Small time (Accepted a n) = Unit {0}
+Small time (Accepted n) = Unit {0}
 Small time (Sent q) = (time ≤ 2 ^ 40) × (q.first ≤ 2 ^ 40) × (q.size ≤ 256)
 Small time (Held k u) = Unit {0}
 Small time Nothing = Unit {0}

@@ -1,27 +1,29 @@
 //! Whole lines. Each function answers where it ended.
 
 ghost use Rattle.std.specs.Prelude.{◌≡◌, ◌+◌, ◌≤◌, length};
+ghost use Rattle.driver.specs.Runs.{time_of};
 ghost use Rattle.listing.specs.Near.{Small};
 ghost use Rattle.fields.specs.Buffers.{put};
-ghost use Rattle.listing.specs.Lines.{event_line, fault_line, named, share_line, timed};
+ghost use Rattle.listing.specs.Lines.{application_of, event_line, fault_line, named, share_line, timed};
 
 use crate::numbers::{put_decimal, put_numbers};
-use driver::command::Outcome;
+use driver::command::{Command, Outcome};
 use fields::put::put_bytes;
 use pools::request::Request;
 use records::fault::Fault;
 
 /// The line of an event: when it was, and what came of it.
-pub fn put_event(out: &mut [u8], at: usize, time: u64, outcome: Outcome) -> usize
-    requires { at + length (event_line time outcome) ≤ length out.old }
-    ensures end { result ≡ at + length (event_line time outcome) }
-    ensures after { out.new ≡ put at (event_line time outcome) out.old }
+pub fn put_event(out: &mut [u8], at: usize, command: Command, outcome: Outcome) -> usize
+    requires { at + length (event_line command outcome) ≤ length out.old }
+    ensures end { result ≡ at + length (event_line command outcome) }
+    ensures after { out.new ≡ put at (event_line command outcome) out.old }
 {
+    let time = command.time();
     match outcome {
-        Outcome::Accepted {
-            application,
-            number,
-        } => { put_timed(out, at, time, b" arrive", &[u64::from(application), number]) }
+        Outcome::Accepted(number) => {
+            let application = u64::from(application_of(command));
+            put_timed(out, at, time, b" arrive", &[application, number])
+        }
         Outcome::Sent(request) => {
             let application = u64::from(request.application);
             let size = u64::from(request.size);
@@ -33,7 +35,7 @@ pub fn put_event(out: &mut [u8], at: usize, time: u64, outcome: Outcome) -> usiz
                 &[application, request.number, request.first, size],
             )
         }
-        Outcome::Held { application, until } => {
+        Outcome::Held(application, until) => {
             put_timed(out, at, time, b" hold", &[u64::from(application), until])
         }
         Outcome::Nothing => put_timed(out, at, time, b" none", &[]),
@@ -43,16 +45,33 @@ pub fn put_event(out: &mut [u8], at: usize, time: u64, outcome: Outcome) -> usiz
     }
 }
 
-/// Computes nothing: its contract is that no event's line has more than 64 bytes.
-pub fn event_line_is_short(time: u64, outcome: Outcome)
-    requires { Small time outcome }
-    ensures { length (event_line time outcome) ≤ 64 }
+/// The application that an arrival is of; of any other call 0, which stands in no line.
+fn application_of(command: Command) -> u8
+    ensures { result ≡ application_of command }
 {
+    match command {
+        Command::Arrival {
+            time: _,
+            application,
+            first: _,
+            size: _,
+            kind: _,
+        } => application,
+        Command::Dispatch(_) => 0,
+        Command::Completion(_) => 0,
+        Command::Tick(_) => 0,
+    }
+}
+
+/// Writes nothing: its contract is that no event's line has more than 64 bytes.
+pub fn event_line_is_short(command: Command, outcome: Outcome)
+    requires { Small (time_of command) outcome }
+    ensures { length (event_line command outcome) ≤ 64 }
+{
+    let _time = command.time();
+    let _application = application_of(command);
     match outcome {
-        Outcome::Accepted {
-            application: _application,
-            number: _number,
-        } => {}
+        Outcome::Accepted(_number) => {}
         Outcome::Sent(request) => {
             let Request {
                 number: _number,
@@ -62,10 +81,7 @@ pub fn event_line_is_short(time: u64, outcome: Outcome)
                 kind: _,
             } = request;
         }
-        Outcome::Held {
-            application: _application,
-            until: _until,
-        } => {}
+        Outcome::Held(_application, _until) => {}
         Outcome::Nothing => {}
         Outcome::Done(_number) => {}
         Outcome::Ticked => {}

@@ -7,5 +7,5 @@ pub returns : goal.returns
 returns c =
     record {
       end = search rules;
-      after = put_twice _ _ (pair (c.args.number / 100)) (pair (c.args.number % 100)) _ c.put-pair-end.ensures.after c.put-pair.ensures.after c.put-pair-end.ensures.end (omega arith);
+      after = put_twice _ _ (pair (c.args.number / 100)) (pair (c.args.number % 100)) _ c.put_pair-end.ensures.after c.put_pair.ensures.after c.put_pair-end.ensures.end (omega arith);
     }

@@ -6,5 +6,5 @@ pub returns : goal.returns
 returns c =
     record {
       end = search rules;
-      after = put_twice _ _ (32 ∷ []) (decimal c.args.number) _ c.put-bytes-end.ensures.after c.put-decimal.ensures.after c.put-bytes-end.ensures.end (omega arith);
+      after = put_twice _ _ (32 ∷ []) (decimal c.args.number) _ c.put_bytes-end.ensures.after c.put_decimal.ensures.after c.put_bytes-end.ensures.end (omega arith);
     }

@@ -1,4 +1,4 @@
-use Rattle.std.proofs.Common.{◌≡◌, ◌+◌, ◌≤◌, map, length, drop, decimal}
+use Rattle.std.proofs.Common.{◌≡◌, ◌+◌, map, length, drop, decimal}
 use Rattle.fields.specs.Buffers.{put}
 use Rattle.listing.specs.Lines.{spaced}
 use Rattle.listing.proofs.numbers.put_numbers.Given as goal
