@@ -1,5 +1,5 @@
 -- The events that were played so far, and those that are left. Assumes nothing.
-use Rattle.std.proofs.Common.{◌≡◌, ℕ, ◌+◌, ◌*◌, ◌^◌, ◌<◌, ◌≤◌, Bool, true, false, cond, eqb, ◌⊎◌, List, [], ◌∷◌, ◌++◌, length, get_or, drop, set, Some, None, Option, sym, refl, ap, ◌∙◌, subst, ap₂, inl, inr, arith, get_or-set_other, get_or-set_same}
+use Rattle.std.proofs.Common.{◌≡◌, ℕ, ◌+◌, ◌*◌, ◌<◌, ◌≤◌, Bool, true, false, cond, eqb, List, [], ◌∷◌, ◌++◌, length, get_or, drop, set, Some, None, Option, sym, refl, ap, ◌∙◌, subst, ap₂, inl, inr, arith, get_or-set_other, get_or-set_same}
 use Rattle.std.proofs.lemmas.List.{drop_all, drop_more}
 use Rattle.std.proofs.lemmas.List.Sums.{sum_by-cons}
 use Rattle.std.proofs.lemmas.Bool.{cases_eq, eq-eqb, ne_eqb}
@@ -28,10 +28,10 @@ use Rattle.replays.specs.Listings.{event_lines}
 
 module _ (k : ℕ) (o : Option Refusal) where
   -- an entry sends for application k what its outcome says
-  accepts : (a n : ℕ) → sectors_for k (answered o (history.accepted n)) ≡ credit_for k (or_refused o (O.Accepted a n))
-  accepts a n = go o
+  accepts : (n : ℕ) → sectors_for k (answered o (history.accepted n)) ≡ credit_for k (or_refused o (O.Accepted n))
+  accepts n = go o
     where
-      go : (o : Option Refusal) → sectors_for k (answered o (history.accepted n)) ≡ credit_for k (or_refused o (O.Accepted a n))
+      go : (o : Option Refusal) → sectors_for k (answered o (history.accepted n)) ≡ credit_for k (or_refused o (O.Accepted n))
       go None = refl
       go (Some r) = refl
 
@@ -60,7 +60,7 @@ module _ (k : ℕ) (o : Option Refusal) where
 
 -- what an outcome adds to the sums
 credited_sum : (o : Outcome) (sums : List ℕ) (k : ℕ) → k < length sums → get_or (credited o sums) k 0 ≡ get_or sums k 0 + credit_for k o
-credited_sum (O.Accepted a n) sums k h = omega arith
+credited_sum (O.Accepted n) sums k h = omega arith
 credited_sum (O.Sent q) sums k h =
     elim (cases_eq q.application k) [
       | inl e ↦
@@ -78,7 +78,7 @@ credited_sum (O.Refused n) sums k h = omega arith
 
 -- which is not much
 credit_low : (time k : ℕ) (o : Outcome) → Small time o → credit_for k o ≤ 256
-credit_low time k (O.Accepted a n) s = omega arith
+credit_low time k (O.Accepted n) s = omega arith
 credit_low time k (O.Sent q) s = go (eqb q.application k)
   where
     go : (b : Bool) → cond b q.size 0 ≤ 256
@@ -100,7 +100,7 @@ module _ (choice : Choice) (next : Rule) where
   sent_more : (k : ℕ) (c : Command) (cs : List Command) (m : Machine) → sent_for k (history_of choice next (c ∷ cs) m) ≡ credit_for k (outcome choice next c m) + sent_for k (history_of choice next cs (acted choice next c m))
   sent_more k (C.Arrival time a first size kind) cs m =
       by_call k (arrival time a first size kind) (calls_of choice next cs (arrived choice next time a first size kind m)) m
-      (credit_for k (or_refused (arrival_refusal time a first size m) (O.Accepted a (m.count + 1)))) (accepts k (arrival_refusal time a first size m) a (m.count + 1))
+      (credit_for k (or_refused (arrival_refusal time a first size m) (O.Accepted (m.count + 1)))) (accepts k (arrival_refusal time a first size m) (m.count + 1))
   sent_more k (C.Dispatch time) cs m =
       by_call k (dispatch time) (calls_of choice next cs (dispatched choice next time m)) m
       (credit_for k (or_refused (dispatch_refusal time m) (replied (dispatch_reply choice next time m)))) (replies k (dispatch_refusal time m) (dispatch_reply choice next time m))
@@ -128,13 +128,13 @@ module _ (choice : Choice) (next : Rule) where
     going_start sums near blank = record { near = near; low = omega arith; long = omega arith; same = refl; sent = λ k h. omega (arith, blank k); modest = λ k h. omega (arith, blank k) }
 
     pub going_more : (m m' : Machine) (i end end' : ℕ) (out out' sums sums' : List ℕ) (c : Command) (o : Outcome) → Going cs start before n m i end out sums → i < length cs → c ≡ get_or cs i c
-        → o ≡ outcome choice next c m → m' ≡ acted choice next c m → length (event_line (time_of c) o) ≤ 64 → end' ≡ end + length (event_line (time_of c) o) → out' ≡ put end (event_line (time_of c) o) out
+        → o ≡ outcome choice next c m → m' ≡ acted choice next c m → length (event_line c o) ≤ 64 → end' ≡ end + length (event_line c o) → out' ≡ put end (event_line c o) out
         → sums' ≡ credited o sums → length sums ≡ n → end ≤ length out → Going cs start before n m' (i + 1) end' out' sums'
     going_more m m' i end end' out out' sums sums' c o g h read is moves short ends puts adds size room =
         let cut : drop i cs ≡ c ∷ drop (i + 1) cs = drop_more cs i c h ∙ ap (λ x. x ∷ drop (i + 1) cs) (sym read) in
-        let this = event_line (time_of c) o in
+        let this = event_line c o in
         let rest = event_lines choice next (drop (i + 1) cs) m' in
-        let whole : event_lines choice next (drop i cs) m ≡ this ++ rest = ap (λ xs. event_lines choice next xs m) cut ∙ ap₂ (λ x n. event_line (time_of c) x ++ event_lines choice next (drop (i + 1) cs) n) (sym is) (sym moves) in
+        let whole : event_lines choice next (drop i cs) m ≡ this ++ rest = ap (λ xs. event_lines choice next xs m) cut ∙ ap₂ (λ x n. event_line c x ++ event_lines choice next (drop (i + 1) cs) n) (sym is) (sym moves) in
         let little : Small (time_of c) o = subst (Small (time_of c)) (sym is) (small choice next c m (g.near [] tt)) in
         record {
           near = subst (StaysNear choice next) (sym moves) (stays_near choice next c m g.near);

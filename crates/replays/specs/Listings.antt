@@ -1,6 +1,6 @@
 -- The listing of a file: a line for each event, then a line for each application.
 use Rattle.std.specs.Prelude.{ℕ, suc, List, [], ◌∷◌, ◌++◌, Ok, Err, Result}
-use Rattle.driver.specs.Runs.{acted, history, outcome, time_of}
+use Rattle.driver.specs.Runs.{acted, history, outcome}
 use Rattle.driver.specs.declared.command.Command.{Command}
 use Rattle.files.specs.Reading.{read}
 use Rattle.files.specs.Tables.{Tables}
@@ -16,7 +16,7 @@ module _ (choice : Choice) (next : Rule) where
   -- what comes of each command, from a machine on
   abbrev pub event_lines : List Command → Machine → List ℕ
   event_lines [] m = []
-  event_lines (c ∷ cs) m = event_line (time_of c) (outcome choice next c m) ++ event_lines cs (acted choice next c m)
+  event_lines (c ∷ cs) m = event_line c (outcome choice next c m) ++ event_lines cs (acted choice next c m)
 
 -- the applications from number k on, each with its weight and the sectors sent for it
 abbrev pub share_lines : (ℕ → ℕ) → ℕ → List Application → List ℕ

@@ -4,11 +4,13 @@ ghost use Rattle.std.specs.Prelude.{◌≡◌, length, IfOk};
 ghost use Rattle.std.specs.List.{slice_get};
 ghost use Rattle.trace.specs.View.{tables_of};
 ghost use Rattle.rosters.specs.Rosters.{line_up};
-ghost use Rattle.replays.specs.Asked.{arrival, command, command_at, enroll_one, enrolled};
+ghost use Rattle.replays.specs.Asked.{arrival, asked_kind, command, command_at, enroll_one, enrolled};
 
 use driver::command::Command;
+use pools::request::Kind;
 use rosters::roster::Roster;
 use std::alloc::{AllocError, Global};
+use trace::kind;
 use trace::parts::Placed;
 use trace::tables::{ApplicationRecord, Event, EventRecord, RequestRecord};
 use trace::trace::Trace;
@@ -72,6 +74,16 @@ fn arrival(trace: &Trace, time: u64, request: usize) -> Command
         application,
         first,
         size,
-        kind,
+        kind: asked_kind(kind),
+    }
+}
+
+/// The same kind, as a request of a pool has it.
+fn asked_kind(kind: kind::Kind) -> Kind
+    ensures { result ≡ asked_kind kind }
+{
+    match kind {
+        kind::Kind::Asynchronous => Kind::Asynchronous,
+        kind::Kind::Synchronous => Kind::Synchronous,
     }
 }

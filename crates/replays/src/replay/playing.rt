@@ -51,9 +51,8 @@ pub(crate) fn play<S: Calls>(
             token: held,
         } = step(scheduler, command, token);
         token = held;
-        let time = command.time();
-        event_line_is_short(time, outcome);
-        end = put_event(out, end, time, outcome);
+        event_line_is_short(command, outcome);
+        end = put_event(out, end, command, outcome);
         credit(sent, outcome);
     }
     Played { end, token }

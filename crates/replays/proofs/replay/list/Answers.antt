@@ -1,4 +1,4 @@
-use Rattle.std.proofs.Common.{◌≡◌, ◌+◌, length, sym, refl, ap, ◌∙◌, subst, ap₂, arith}
+use Rattle.std.proofs.Common.{◌≡◌, ◌+◌, length, sym, refl, ap, ◌∙◌, subst, ap₂, arith, rules}
 use Rattle.std.proofs.lemmas.List.{length-append, length-map}
 use Rattle.trace.specs.View.{tables_of}
 use Rattle.listing.proofs.Near.{near_start}
@@ -8,9 +8,9 @@ use Rattle.fields.proofs.Puts.{put_twice}
 use Rattle.fields.specs.Buffers.{put}
 use Rattle.histories.proofs.Reachable.{recorded_runs}
 use Rattle.histories.specs.History.{sent_for}
-use Rattle.histories.specs.Promises.{Promises}
-use Rattle.histories.specs.Reachable.{StaysInBounds}
+use Rattle.histories.specs.Promises.{Lawful, Promises, Sealed}
 use Rattle.machine.specs.Machine.{beginning}
+use Rattle.rosters.specs.Rosters.{line_up}
 use Rattle.replays.specs.Asked.{command, commands, member, roster}
 use Rattle.replays.specs.Credits.{sums_of}
 use Rattle.replays.specs.Listings.{event_lines, played, share_lines, start}
@@ -22,17 +22,20 @@ play-end-requires g c =
     let t = tables_of c.args.trace.now in
     let first = g.R.BudgetRule.first_budget in
     let begins = c.seal-scheduler.ensures.state ∙ ap (beginning first) c.requires.same in
-    let bounds = subst (StaysInBounds g.P.Pool.choice first g.R.BudgetRule.next_budget) c.requires.same c.seal-scheduler.ensures.bounds in
+    let next = g.R.BudgetRule.next_budget in
+    let lawful : Lawful g.P.Pool.choice first next = record { within = g.met.P.Pool.within; first_fits = g.met.R.BudgetRule.first_fits; next_fits = g.met.R.BudgetRule.next_fits } in
+    let members = c.args.members in
+    let sealed : Sealed (line_up members) = record { some = search rules; few = search rules; each = members.each; hold_low = members.hold_low; hold_high = members.hold_high } in
     record {
       free = subst (λ m. Holding m none_held) (sym begins) (record { clock = omega arith; flight = refl });
-      near = subst (StaysNear g.P.Pool.choice g.R.BudgetRule.next_budget) (sym begins) (near_start g.P.Pool.choice first g.R.BudgetRule.next_budget (roster t) bounds);
+      near = subst (StaysNear g.P.Pool.choice g.R.BudgetRule.next_budget) (sym begins) (near_start g.P.Pool.choice first next (roster t) lawful (subst Sealed c.requires.same sealed));
       few = omega (arith, c.requires.judged.few_events, length-map t.events (command t.requests));
       room = omega (arith, c.requires.judged.few_events, c.requires.room, length-map t.events (command t.requests));
       blank = zeros 16;
     }
 
-pub put-shares-end-requires : goal.put-shares-end-requires
-put-shares-end-requires g c =
+pub put_shares-end-requires : goal.put_shares-end-requires
+put_shares-end-requires g c =
     let t = tables_of c.args.trace.now in
     record { few = c.requires.judged.few_applications; each = c.play-end.auto.sent; room = omega (arith, c.play-end.ensures.most, c.requires.judged.few_events, c.requires.room, length-map t.events (command t.requests)) }
 
@@ -51,11 +54,11 @@ returns g c =
     let summed : share_lines (sums_of c.play-end.new.sent) 0 (roster t).applications ≡ shares =
     shares_same_by (sums_of c.play-end.new.sent) (λ k. sent_for k (played choice first next t)) 0 (roster t).applications
     (λ k h. c.play-end.ensures.sums k (omega (arith, c.requires.judged.few_applications, length-map t.applications member)) ∙ ap (λ m. sent_for k (history choice next (commands t) m)) begins) in
-    let put_shares = c.put-shares-end.ensures.after ∙ ap (λ ys. put c.play-end.result.end ys c.play-end.new.out) summed in
+    let put_shares = c.put_shares-end.ensures.after ∙ ap (λ ys. put c.play-end.result.end ys c.play-end.new.out) summed in
     let promises = subst (Promises choice first next) c.requires.same c.seal-scheduler.ensures.promises in
     record {
-      length_is = c.put-shares-end.ensures.end ∙ ap₂ (λ n ys. n + length ys) events_end summed ∙ sym (length-append events shares);
-      most = omega (arith, c.put-shares-end.ensures.most, c.play-end.ensures.most, c.requires.judged.few_events, length-map t.events (command t.requests));
+      length_is = c.put_shares-end.ensures.end ∙ ap₂ (λ n ys. n + length ys) events_end summed ∙ sym (length-append events shares);
+      most = omega (arith, c.put_shares-end.ensures.most, c.play-end.ensures.most, c.requires.judged.few_events, length-map t.events (command t.requests));
       after = put_twice 0 _ events shares c.args.out.now put_events put_shares (events_end ∙ omega arith) (omega arith);
       promises = promises (played choice first next t) (recorded_runs choice next (start choice first next t) (calls_of choice next (commands t) (start choice first next t)));
     }

@@ -1,4 +1,4 @@
-use Rattle.std.proofs.Common.{◌≡◌, ◌-◌, sym, ◌∙◌}
+use Rattle.std.proofs.Common.{◌-◌, sym, ◌∙◌}
 use Rattle.trace.specs.View.{tables_of}
 use Rattle.replays.proofs.Asking.{placed_some, placed_none}
 use Rattle.replays.proofs.Sharing.{weight_some, weight_none}
