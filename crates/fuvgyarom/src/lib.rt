@@ -1,5 +1,7 @@
-//! The replay, for programs in C. `rt staticlib fuvgyarom` makes the library, and `c/fuvgyarom.h` is its
-//! header.
+//! The replay, for programs in C: a static library, which `rt lib` makes in this folder. A C program
+//! declares its one function as
+//! `uint8_t fuvgyarom_replay(const uint8_t *trace, size_t trace_bytes, uint8_t *listing, size_t listing_bytes, size_t *written);`
+//! and links with the kit's `liblibc_c.a`, through which the library calls `malloc` and `free`.
 
 #![tactic(auto)]
 
