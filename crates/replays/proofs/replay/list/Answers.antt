@@ -1,4 +1,4 @@
-use Rattle.std.proofs.Common.{◌≡◌, ◌+◌, length, sym, refl, ap, ◌∙◌, subst, ap₂, arith, rules}
+use Rattle.std.proofs.Common.{◌≡◌, ◌+◌, length, sym, refl, ap, ◌∙◌, subst, arith, rules}
 use Rattle.std.proofs.lemmas.List.{length-append, length-map}
 use Rattle.trace.specs.View.{tables_of}
 use Rattle.listing.proofs.Near.{near_start}
@@ -49,15 +49,16 @@ returns g c =
     let begins = c.seal-scheduler.ensures.state ∙ ap (beginning first) c.requires.same in
     let events = event_lines choice next (commands t) (start choice first next t) in
     let shares = share_lines (λ k. sent_for k (played choice first next t)) 0 (roster t).applications in
-    let put_events = c.play-end.ensures.after ∙ ap (λ m. put 0 (event_lines choice next (commands t) m) c.args.out.now) begins in
-    let events_end : c.play-end.result.end ≡ length events = c.play-end.ensures.end ∙ ap (λ m. length (event_lines choice next (commands t) m)) begins in
+    let put_events = subst (λ m. c.play-end.new.out ≡ put 0 (event_lines choice next (commands t) m) c.args.out.now) begins c.play-end.ensures.after in
+    let events_end : c.play-end.result.end ≡ length events = subst (λ m. c.play-end.result.end ≡ length (event_lines choice next (commands t) m)) begins c.play-end.ensures.end in
     let summed : share_lines (sums_of c.play-end.new.sent) 0 (roster t).applications ≡ shares =
     shares_same_by (sums_of c.play-end.new.sent) (λ k. sent_for k (played choice first next t)) 0 (roster t).applications
-    (λ k h. c.play-end.ensures.sums k (omega (arith, c.requires.judged.few_applications, length-map t.applications member)) ∙ ap (λ m. sent_for k (history choice next (commands t) m)) begins) in
-    let put_shares = c.put_shares-end.ensures.after ∙ ap (λ ys. put c.play-end.result.end ys c.play-end.new.out) summed in
+    (λ k h. subst (λ m. sums_of c.play-end.new.sent k ≡ sent_for k (history choice next (commands t) m)) begins (c.play-end.ensures.sums k (omega (arith, c.requires.judged.few_applications, length-map t.applications member)))) in
+    let put_shares = subst (λ ys. c.put_shares-end.new.out ≡ put c.play-end.result.end ys c.play-end.new.out) summed c.put_shares-end.ensures.after in
+    let shares_end = subst (λ ys. c.put_shares-end.result ≡ c.play-end.result.end + length ys) summed c.put_shares-end.ensures.end in
     let promises = subst (Promises choice first next) c.requires.same c.seal-scheduler.ensures.promises in
     record {
-      length_is = c.put_shares-end.ensures.end ∙ ap₂ (λ n ys. n + length ys) events_end summed ∙ sym (length-append events shares);
+      length_is = shares_end ∙ ap (λ n. n + length shares) events_end ∙ sym (length-append events shares);
       most = omega (arith, c.put_shares-end.ensures.most, c.play-end.ensures.most, c.requires.judged.few_events, length-map t.events (command t.requests));
       after = put_twice 0 _ events shares c.args.out.now put_events put_shares (events_end ∙ omega arith) (omega arith);
       promises = promises (played choice first next t) (recorded_runs choice next (start choice first next t) (calls_of choice next (commands t) (start choice first next t)));
