@@ -158,6 +158,7 @@ fn tick<S: Calls>(scheduler: &mut S, time: u64, token: Option<Token>) -> Turn
 /// A token that is left is completed, at the time that it is. Such a completion is never refused.
 pub fn finish<S: Calls>(scheduler: &mut S, token: Option<Token>)
     requires { Holding (S.Calls.state scheduler.old) token }
+    ensures { S.Calls.state scheduler.new ≡ acted S.Calls.choice S.Calls.next (C.Completion (S.Calls.state scheduler.old).clock) (S.Calls.state scheduler.old) }
 {
     let Some(token) = token else {
         return;
