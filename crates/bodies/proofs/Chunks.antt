@@ -1,5 +1,5 @@
 -- The pieces of a body. Assumes nothing.
-use Rattle.std.proofs.Common.{◌≡◌, ℕ, zero, suc, ◌+◌, ◌*◌, ◌<◌, List, [], length, get_or, take, drop, sym, refl, ap, ◌∙◌, arith}
+use Rattle.std.proofs.Common.{◌≡◌, ℕ, zero, suc, ◌+◌, ◌*◌, ◌<◌, List, [], length, get_or, take, drop, refl, ap, ◌∙◌, arith}
 use Rattle.std.proofs.lemmas.List.{drop-drop}
 use Rattle.bodies.specs.Bodies.{chunks}
 
@@ -15,7 +15,3 @@ chunk_at w (suc n) bs zero h =
 chunk_at w (suc n) bs (suc i) h =
     let more : w + w * i ≡ w * suc i = omega arith in
     chunk_at w n (drop w bs) i (omega arith) ∙ ap (take w) (drop-drop (w * i) w bs ∙ ap (λ k. drop k bs) more)
-
--- the part of a body that was cut out, where the width is known by another name
-pub piece_at : (w n : ℕ) (bs : List ℕ) (i v : ℕ) (part : List ℕ) → v ≡ w → part ≡ take v (drop (v * i) bs) → i < n → part ≡ get_or (chunks w n bs) i []
-piece_at w n bs i v part same is h = is ∙ ap (λ k. take k (drop (k * i) bs)) same ∙ sym (chunk_at w n bs i h)

@@ -1,5 +1,6 @@
 -- Bodies as lists of records, and the first fault in one.
-use Rattle.std.specs.Prelude.{ℕ, zero, suc, List, [], ◌∷◌, take, drop, Ok, Result}
+use Rattle.std.specs.Prelude.{ℕ, suc, List, [], ◌∷◌, Ok, Result}
+use Rattle.std.specs.Simd.{first_chunks}
 use Rattle.records.specs.Faults.{onward}
 use Rattle.records.specs.declared.fault.Fault.{Fault}
 
@@ -14,5 +15,4 @@ judged judge i (x ∷ xs) = onward (judge i x) (λ _. judged judge (suc i) xs)
 
 -- the first n pieces of w bytes each
 abbrev pub chunks : ℕ → ℕ → List ℕ → List (List ℕ)
-chunks w zero bs = []
-chunks w (suc n) bs = take w bs ∷ chunks w n (drop w bs)
+chunks w n bs = first_chunks w n bs

@@ -1,11 +1,13 @@
 //! What is asked of each kind of record, in bytes and in a table.
 
-ghost use Rattle.std.specs.Prelude.{◌≡◌, length};
-ghost use Rattle.bodies.specs.Judging.{at_least_sound, judge_hold, judge_settings, judge_application, judge_request, judge_event, judge_name, judge_member, judge_member_bytes};
+ghost use Rattle.std.specs.Prelude.{◌≡◌, ◌+◌, ◌*◌, ◌<◌};
+ghost use Rattle.bodies.specs.Judging.{at_least_sound, judge_hold, judge_settings, judge_event, judge_name, judge_member, judge_member_bytes};
 
-use crate::judge::{JudgeBytes, JudgeRecord};
+use crate::judge::Judge;
 use records::fault::{Cause, Fault, Layer};
-use records::tables::{ApplicationRecord, Event, EventRecord, RequestRecord, Settings};
+use records::record::Record;
+use records::tables::{ApplicationRecord, Event, EventRecord, Settings};
+use std::marker::PhantomData;
 
 /// Bytes that hold a record, or the fault of the record at that place.
 fn sound_or(sound: bool, place: usize) -> Result<(), Fault>
@@ -14,60 +16,40 @@ fn sound_or(sound: bool, place: usize) -> Result<(), Fault>
     if sound {
         Ok(())
     } else {
-        Err(Fault {
-            layer: Layer::Records,
-            number: Cause::Byte,
-            place,
-        })
+        Err(Fault::new(Layer::Records, Cause::Byte, place))
     }
 }
 
 /// The settings, which stand at byte 32.
-pub fn judge_settings(bytes: &[u8]) -> Result<(), Fault>
-    requires { length bytes.now ≡ 8 }
+pub fn judge_settings(bytes: &[u8; 8]) -> Result<(), Fault>
     ensures { result ≡ judge_settings bytes.now }
 {
     sound_or(Settings::is_sound(bytes), 32)
 }
 
-/// The applications, which begin at byte 40.
+/// Records of one kind, the first of which stands at `first`: bytes must hold one.
 #[derive(Drop)]
-pub struct ApplicationBytes;
-
-impl JudgeBytes for ApplicationBytes {
-    ghost width = { 8 };
-
-    ghost verdict = { λ _ i bs. judge_application i bs };
-
-    fn width(&self) -> usize {
-        8
-    }
-
-    fn judge(&self, index: usize, bytes: &[u8]) -> Result<(), Fault> {
-        sound_or(ApplicationRecord::is_sound(bytes), 40 + 8 * index)
-    }
-}
-
-/// The requests, the first of which stands at `first`.
-#[derive(Drop)]
-pub struct RequestBytes {
+pub struct Sound<R> {
     pub first: u32,
+    pub kind: PhantomData<R>,
 }
 
-impl JudgeBytes for RequestBytes {
-    ghost width = { 16 };
-
-    ghost verdict = { λ j i bs. judge_request j.first i bs };
-
-    fn width(&self) -> usize {
-        16
+impl<R> Sound<R> {
+    pub fn from(first: u32) -> Sound<R>
+        ensures { result.first ≡ first }
+    {
+        Sound {
+            first,
+            kind: PhantomData,
+        }
     }
+}
 
-    fn judge(&self, index: usize, bytes: &[u8]) -> Result<(), Fault> {
-        sound_or(
-            RequestRecord::is_sound(bytes),
-            self.first as usize + 16 * index,
-        )
+impl<const N: usize, R: Record<N>> Judge<[u8; N]> for Sound<R> {
+    ghost verdict = { λ j i bs. at_least_sound (R.sound bs) (j.first + N * i) };
+
+    fn judge(&self, index: usize, bytes: &[u8; N]) -> Result<(), Fault> {
+        sound_or(R::is_sound(bytes), self.first as usize + N * index)
     }
 }
 
@@ -78,82 +60,61 @@ pub struct Events {
     pub requests: usize,
 }
 
-impl JudgeBytes for Events {
-    ghost width = { 16 };
+impl Events {
+    fn place(&self, index: usize) -> usize
+        requires { index < 960 }
+        ensures { result ≡ self.now.first + 16 * index }
+    {
+        self.first as usize + 16 * index
+    }
+}
 
+impl Judge<[u8; 16]> for Events {
     ghost verdict = { λ j i bs. judge_event j.first j.requests i bs };
 
-    fn width(&self) -> usize {
-        16
-    }
-
-    fn judge(&self, index: usize, bytes: &[u8]) -> Result<(), Fault> {
-        sound_or(
-            EventRecord::is_sound(bytes),
-            self.first as usize + 16 * index,
-        )?;
-        <Events as JudgeRecord>::judge(self, index, &EventRecord::of(bytes))
+    fn judge(&self, index: usize, bytes: &[u8; 16]) -> Result<(), Fault> {
+        sound_or(EventRecord::is_sound(bytes), self.place(index))?;
+        self.judge(index, &EventRecord::of(bytes))
     }
 }
 
-impl JudgeRecord for Events {
-    type Record = EventRecord;
-
+impl Judge<EventRecord> for Events {
     ghost verdict = { λ j i e. judge_name j.first j.requests i e };
 
-    fn judge(&self, index: usize, row: &EventRecord) -> Result<(), Fault> {
-        if let Event::Arrival(request) = row.event {
-            if request as usize >= self.requests {
-                let place = self.first as usize + 16 * index;
-                return Err(Fault {
-                    layer: Layer::Records,
-                    number: Cause::NoRequest,
-                    place,
-                });
-            }
+    fn judge(&self, index: usize, record: &EventRecord) -> Result<(), Fault> {
+        match record.event {
+            Event::Arrival(request) if request as usize >= self.requests => Err(Fault::new(
+                Layer::Records,
+                Cause::NoRequest,
+                self.place(index),
+            )),
+            _ => Ok(()),
         }
-        Ok(())
     }
 }
 
-/// The applications as members of a roster, numbered from 1.
+/// The applications as members of a roster: the first is of application 1.
+// The ranges stand here and in `rosters`: trace files are read without rosters, and rosters know of no files.
 #[derive(Drop)]
 pub struct Members;
 
-impl JudgeBytes for Members {
-    ghost width = { 8 };
-
+impl Judge<[u8; 8]> for Members {
     ghost verdict = { λ _ i bs. judge_member_bytes i bs };
 
-    fn width(&self) -> usize {
-        8
-    }
-
-    fn judge(&self, index: usize, bytes: &[u8]) -> Result<(), Fault> {
-        <Members as JudgeRecord>::judge(self, index, &ApplicationRecord::of(bytes))
+    fn judge(&self, index: usize, bytes: &[u8; 8]) -> Result<(), Fault> {
+        self.judge(index, &ApplicationRecord::of(bytes))
     }
 }
 
-impl JudgeRecord for Members {
-    type Record = ApplicationRecord;
-
+impl Judge<ApplicationRecord> for Members {
     ghost verdict = { λ _ i a. judge_member i a };
 
-    fn judge(&self, index: usize, row: &ApplicationRecord) -> Result<(), Fault> {
-        let place = index + 1;
-        if row.weight < 1 || row.weight > 10 {
-            return Err(Fault {
-                layer: Layer::Roster,
-                number: Cause::Weight,
-                place,
-            });
+    fn judge(&self, index: usize, record: &ApplicationRecord) -> Result<(), Fault> {
+        if !(1..=10).contains(&record.weight) {
+            return Err(Fault::new(Layer::Roster, Cause::Weight, index + 1));
         }
-        if row.limit < 256 || row.limit > 65536 {
-            return Err(Fault {
-                layer: Layer::Roster,
-                number: Cause::Limit,
-                place,
-            });
+        if !(256..=65_536).contains(&record.limit) {
+            return Err(Fault::new(Layer::Roster, Cause::Limit, index + 1));
         }
         Ok(())
     }
@@ -163,12 +124,9 @@ impl JudgeRecord for Members {
 pub fn judge_hold(settings: Settings) -> Result<(), Fault>
     ensures { result ≡ judge_hold settings }
 {
-    if settings.hold < 1 || settings.hold > 1000000 {
-        return Err(Fault {
-            layer: Layer::Roster,
-            number: Cause::Hold,
-            place: 0,
-        });
+    if (1..=1_000_000).contains(&settings.hold) {
+        Ok(())
+    } else {
+        Err(Fault::new(Layer::Roster, Cause::Hold, 0))
     }
-    Ok(())
 }

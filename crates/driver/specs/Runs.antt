@@ -1,5 +1,5 @@
 -- What a script of calls comes to on the machine.
-use Rattle.std.specs.Prelude.{◌≡◌, ℕ, ◌+◌, ◌^◌, ◌≤◌, List, [], ◌∷◌, Some, None, Option}
+use Rattle.std.specs.Prelude.{◌≡◌, ℕ, ◌+◌, ◌^◌, ◌≤◌, List, [], ◌∷◌, Some, None, Ok, Err, Option, Result}
 use Rattle.histories.specs.History.{Call, arrival, dispatch, completion, tick, History}
 use Rattle.histories.specs.Promises.{recorded}
 use Rattle.machine.specs.Calls.{arrival_refusal, arrived, dispatch_refusal, dispatched, dispatch_reply, completion_refusal, completed, tick_refusal, ticked}
@@ -9,13 +9,13 @@ use Rattle.machine.specs.declared.refusal.Refusal.{Refusal}
 use Rattle.pools.specs.Lines.{Choice}
 use Rattle.pools.specs.declared.request.Request.{Request}
 use Rattle.scheduler.specs.Answers.{request_of}
-use Rattle.scheduler.specs.declared.token.Dispatched.{Dispatched}
-use Rattle.scheduler.specs.declared.token.Dispatched.TheVariants as D
 use Rattle.scheduler.specs.declared.token.Token.{Token}
 use Rattle.driver.specs.declared.command.Command.{Command}
 use Rattle.driver.specs.declared.command.Command.TheVariants.{Arrival, Dispatch, Completion, Tick}
-use Rattle.driver.specs.declared.command.Outcome.{Outcome}
-use Rattle.driver.specs.declared.command.Outcome.TheVariants.{Accepted, Sent, Held, Nothing, Done, Ticked, Refused}
+use Rattle.driver.specs.declared.command.Answer.{Answer}
+use Rattle.driver.specs.declared.command.Answer.TheVariants.{Accepted, Sent, Held, Nothing, Done, Ticked}
+use Rattle.driver.specs.declared.command.Refused.{Refused}
+use Rattle.driver.specs.declared.command.Refused.TheVariants as F
 
 -- the time that a command brings
 abbrev pub time_of : Command → ℕ
@@ -24,19 +24,24 @@ time_of (Dispatch time) = time
 time_of (Completion time) = time
 time_of (Tick time) = time
 
--- a refusal, or what else the call came to
-abbrev pub or_refused : Option Refusal → Outcome → Outcome
-or_refused None o = o
-or_refused (Some r) o = Refused (number r)
+-- the number by which the outside knows why a command was refused
+abbrev pub refused_number : Refused → ℕ
+refused_number (F.Call r) = number r
+refused_number F.NoToken = 17
 
-abbrev pub replied : Reply → Outcome
+-- a call is refused, or comes to something
+abbrev pub or_refused : Option Refusal → Answer → Result Answer Refused
+or_refused None a = Ok a
+or_refused (Some r) a = Err (F.Call r)
+
+abbrev pub replied : Reply → Answer
 replied (sends r) = Sent r
 replied (holds k u) = Held k u
 replied nothing = Nothing
 
--- a completion where nothing is in flight is refused with 17, and calls nothing
-abbrev pub completion_outcome : Option Request → ℕ → Machine → Outcome
-completion_outcome None time m = Refused 17
+-- a completion where nothing is in flight is refused, and calls nothing
+abbrev pub completion_outcome : Option Request → ℕ → Machine → Result Answer Refused
+completion_outcome None time m = Err F.NoToken
 completion_outcome (Some r) time m = or_refused (completion_refusal time r m) (Done r.number)
 
 abbrev pub completion_after : Choice → Rule → Option Request → ℕ → Machine → Machine
@@ -45,7 +50,7 @@ completion_after choice next (Some r) time m = completed choice next time r m
 
 module _ (choice : Choice) (next : Rule) where
   -- what a command comes to
-  abbrev pub outcome : Command → Machine → Outcome
+  abbrev pub outcome : Command → Machine → Result Answer Refused
   outcome (Arrival time a first size kind) m = or_refused (arrival_refusal time a first size m) (Accepted (m.count + 1))
   outcome (Dispatch time) m = or_refused (dispatch_refusal time m) (replied (dispatch_reply choice next time m))
   outcome (Completion time) m = completion_outcome m.flight time m
@@ -59,7 +64,7 @@ module _ (choice : Choice) (next : Rule) where
   acted (Tick time) m = ticked choice next time m
 
   -- the outcomes of a script, one after another
-  abbrev pub outcomes_of : List Command → Machine → List Outcome
+  abbrev pub outcomes_of : List Command → Machine → List (Result Answer Refused)
   outcomes_of [] m = []
   outcomes_of (c ∷ cs) m = outcome c m ∷ outcomes_of cs (acted c m)
 
@@ -93,9 +98,3 @@ none_held = None
 pub record Holding (m : Machine) (token : Option Token) : Type 0 where
   pub clock : m.clock ≤ 2 ^ 40
   pub flight : m.flight ≡ parts token
-
--- a dispatch that sends finds no token held
-abbrev pub Free : Dispatched → Option Token → Type 0
-Free (D.Send s) token = token ≡ None
-Free (D.Hold k u) token = Unit {0}
-Free D.None token = Unit {0}

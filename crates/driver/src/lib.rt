@@ -4,4 +4,4 @@
 
 pub mod command;
 pub mod script;
-pub mod turn;
+pub mod session;

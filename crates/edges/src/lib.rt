@@ -2,27 +2,23 @@
 
 #![tactic(auto)]
 
-use rosters::roster::Roster;
+ghost use Rattle.std.specs.Prelude.{◌≡◌, MatchResult};
+ghost use Rattle.rosters.specs.Refusals.{number};
 
-/// 0 if the application is accepted, and else the refusal's number.
-pub fn answer_to_add(roster: &mut Roster, weight: u8, limit: u32) -> u8 {
-    match roster.add(weight, limit) {
-        Ok(_) => 0,
-        Err(refusal) => refusal.number(),
-    }
-}
+use rosters::refusal::Refusal;
 
-/// 0 if the hold is accepted, and else the refusal's number.
-pub fn answer_to_hold(roster: &mut Roster, ticks: u32) -> u8 {
-    match roster.set_hold(ticks) {
-        Ok(()) => 0,
-        Err(refusal) => refusal.number(),
-    }
+/// 0 if the call is accepted, and else the refusal's number.
+// A number and no Result: the table of the tests has these numbers.
+pub fn answer<T: Drop>(outcome: Result<T, Refusal>) -> u8
+    ensures { MatchResult outcome (λ _. result ≡ 0) (λ refusal. result ≡ number refusal) }
+{
+    outcome.err().map_or(0, u8::from)
 }
 
 #[cfg(test)]
 mod tests {
     use super::*;
+    use rosters::roster::Roster;
     use std::test::Fail;
 
     #[test]
@@ -41,7 +37,7 @@ mod tests {
         ];
         let mut roster = Roster::new(rt.alloc())?;
         for (weight, limit, expected) in cases {
-            assert_eq!(rt; answer_to_add(&mut roster, weight, limit), expected);
+            assert_eq!(rt; answer(roster.add(weight, limit)), expected);
         }
         assert_eq!(rt; roster.len(), 4);
         Ok(())
@@ -51,9 +47,9 @@ mod tests {
     fn sixteen_stand_and_no_more(rt: HostRuntime) -> Result<(), Fail> {
         let mut roster = Roster::new(rt.alloc())?;
         for _ in 0..15 {
-            assert_eq!(rt; answer_to_add(&mut roster, 10, 65536), 0);
+            assert_eq!(rt; answer(roster.add(10, 65536)), 0);
         }
-        assert_eq!(rt; answer_to_add(&mut roster, 0, 0), 1);
+        assert_eq!(rt; answer(roster.add(0, 0)), 1);
         assert_eq!(rt; roster.total_weight(), 151);
         Ok(())
     }
@@ -63,7 +59,7 @@ mod tests {
         let cases: [(u32, u8); 4] = [(0, 4), (1, 0), (1_000_000, 0), (1_000_001, 4)];
         let mut roster = Roster::new(rt.alloc())?;
         for (ticks, expected) in cases {
-            assert_eq!(rt; answer_to_hold(&mut roster, ticks), expected);
+            assert_eq!(rt; answer(roster.set_hold(ticks)), expected);
         }
         assert_eq!(rt; roster.hold(), 1_000_000);
         Ok(())

@@ -1,6 +1,7 @@
 -- The laws of numbers and their bytes, over any width. Assumes nothing.
 use Rattle.std.proofs.Common.{◌≡◌, ℕ, zero, suc, ◌+◌, ◌*◌, ◌/◌, ◌%◌, ◌^◌, ◌<◌, ◌≤◌, List, [], ◌∷◌, length, refl, ap, ◌∙◌, ap₂, arith}
-use Rattle.std.specs.List.{AllByRecursion}
+use Rattle.std.specs.List.{All}
+use Rattle.std.proofs.lemmas.List.Elements.{All-head, All-tail}
 use Rattle.fields.specs.Numbers.{number, bytes}
 
 pub length_bytes : (n x : ℕ) → length (bytes n x) ≡ n
@@ -16,16 +17,17 @@ number_bytes (suc n) x h =
     omega arith
 
 -- bytes that were read are written back
-pub bytes_number : (bs : List ℕ) → AllByRecursion (λ b. b < 256) bs → bytes (length bs) (number bs) ≡ bs
+pub bytes_number : (bs : List ℕ) → All (λ b. b < 256) bs → bytes (length bs) (number bs) ≡ bs
 bytes_number [] h = refl
 bytes_number (b ∷ bs) h =
-    let low : (b + 256 * number bs) % 256 ≡ b = omega (arith, h.0) in
-    let high : (b + 256 * number bs) / 256 ≡ number bs = omega (arith, h.0) in
-    ap₂ (λ x xs. x ∷ xs) low (ap (bytes (length bs)) high ∙ bytes_number bs h.1)
+    let byte = All-head (λ b. b < 256) b bs h in
+    let low : (b + 256 * number bs) % 256 ≡ b = omega (arith, byte) in
+    let high : (b + 256 * number bs) / 256 ≡ number bs = omega (arith, byte) in
+    ap₂ (λ x xs. x ∷ xs) low (ap (bytes (length bs)) high ∙ bytes_number bs (All-tail (λ b. b < 256) b bs h))
 
 -- a number of no more than k bytes
-pub number_below : (bs : List ℕ) (k : ℕ) → AllByRecursion (λ b. b < 256) bs → length bs ≤ k → number bs < 256 ^ k
+pub number_below : (bs : List ℕ) (k : ℕ) → All (λ b. b < 256) bs → length bs ≤ k → number bs < 256 ^ k
 number_below [] zero h few = omega arith
-number_below [] (suc k) h few = omega (arith, number_below [] k tt (omega arith))
+number_below [] (suc k) h few = omega (arith, number_below [] k h (omega arith))
 number_below (b ∷ bs) zero h few = absurd (omega arith)
-number_below (b ∷ bs) (suc k) h few = omega (arith, h.0, number_below bs k h.1 (omega arith))
+number_below (b ∷ bs) (suc k) h few = omega (arith, All-head (λ b. b < 256) b bs h, number_below bs k (All-tail (λ b. b < 256) b bs h) (omega arith))

@@ -1,7 +1,9 @@
-//! Numbers read from a slice.
+//! Parts of a slice, and numbers read from it.
 
 ghost use Rattle.std.specs.Prelude.{◌≡◌, ◌+◌, ◌≤◌, length, take, drop};
 ghost use Rattle.fields.specs.Numbers.{field};
+
+use crate::number::Field;
 
 /// The `size` bytes of a slice from a place on.
 pub fn cut(bytes: &[u8], at: usize, size: usize) -> &[u8]
@@ -12,29 +14,10 @@ pub fn cut(bytes: &[u8], at: usize, size: usize) -> &[u8]
     &bytes[at..at + size]
 }
 
-pub fn get_u16(bytes: &[u8], at: usize) -> u16
-    requires { at + 2 ≤ length bytes.now }
-    ensures { result ≡ field at 2 bytes.now }
+/// The number in the bytes from a place on, as many as its type has.
+pub fn get<const N: usize, F: Field<N>>(bytes: &[u8], at: usize) -> F
+    requires { at + N ≤ length bytes.now }
+    ensures { F.value result ≡ field at N bytes.now }
 {
-    let mut number = [0u8; 2];
-    number.copy_from_slice(cut(bytes, at, 2));
-    u16::from_le_bytes(number)
-}
-
-pub fn get_u32(bytes: &[u8], at: usize) -> u32
-    requires { at + 4 ≤ length bytes.now }
-    ensures { result ≡ field at 4 bytes.now }
-{
-    let mut number = [0u8; 4];
-    number.copy_from_slice(cut(bytes, at, 4));
-    u32::from_le_bytes(number)
-}
-
-pub fn get_u64(bytes: &[u8], at: usize) -> u64
-    requires { at + 8 ≤ length bytes.now }
-    ensures { result ≡ field at 8 bytes.now }
-{
-    let mut number = [0u8; 8];
-    number.copy_from_slice(cut(bytes, at, 8));
-    u64::from_le_bytes(number)
+    F::from_bytes(cut(bytes, at, N).as_array().unwrap())
 }

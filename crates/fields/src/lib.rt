@@ -3,4 +3,5 @@
 #![tactic(auto)]
 
 pub mod get;
+pub mod number;
 pub mod put;

@@ -4,6 +4,11 @@ ghost use Rattle.std.specs.Prelude.{◌≡◌, ◌+◌, ◌≤◌, length};
 ghost use Rattle.fields.specs.Numbers.{bytes};
 ghost use Rattle.fields.specs.Buffers.{put};
 
+use crate::number::Field;
+
+/// Puts bytes from a place on.
+// A buffer and a place, and no struct of both: one that held the `&mut` would need a clause in each contract that it is still the same buffer.
+#[tactic(auto, using(crate::proofs::Puts::part_put))]
 pub fn put_bytes(out: &mut [u8], at: usize, more: &[u8]) -> usize
     requires { at + length more.now ≤ length out.old }
     ensures end { result ≡ at + length more.now }
@@ -14,26 +19,11 @@ pub fn put_bytes(out: &mut [u8], at: usize, more: &[u8]) -> usize
     end
 }
 
-pub fn put_u16(out: &mut [u8], at: usize, number: u16) -> usize
-    requires { at + 2 ≤ length out.old }
-    ensures end { result ≡ at + 2 }
-    ensures after { out.new ≡ put at (bytes 2 number) out.old }
+/// Puts a number in as many bytes as its type has.
+pub fn put<const N: usize, F: Field<N>>(out: &mut [u8], at: usize, number: F) -> usize
+    requires { at + N ≤ length out.old }
+    ensures end { result ≡ at + N }
+    ensures after { out.new ≡ put at (bytes N (F.value number)) out.old }
 {
-    put_bytes(out, at, &u16::to_le_bytes(number))
-}
-
-pub fn put_u32(out: &mut [u8], at: usize, number: u32) -> usize
-    requires { at + 4 ≤ length out.old }
-    ensures end { result ≡ at + 4 }
-    ensures after { out.new ≡ put at (bytes 4 number) out.old }
-{
-    put_bytes(out, at, &u32::to_le_bytes(number))
-}
-
-pub fn put_u64(out: &mut [u8], at: usize, number: u64) -> usize
-    requires { at + 8 ≤ length out.old }
-    ensures end { result ≡ at + 8 }
-    ensures after { out.new ≡ put at (bytes 8 number) out.old }
-{
-    put_bytes(out, at, &u64::to_le_bytes(number))
+    put_bytes(out, at, &number.to_bytes())
 }

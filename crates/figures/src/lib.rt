@@ -5,8 +5,6 @@
 ghost use Rattle.figures.specs.Figures.{Figures};
 
 /// Computes nothing: its contract is the table.
-pub fn figures_stand() -> u8
+pub fn figures_stand()
     ensures { Figures }
-{
-    0
-}
+{}

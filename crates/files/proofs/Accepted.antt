@@ -1,46 +1,38 @@
 -- The writer takes what the reader took. Assumes nothing.
-use Rattle.std.proofs.Common.{◌≡◌, ℕ, zero, suc, ◌+◌, ◌*◌, ◌/◌, cond, leb, List, map, length, take, drop, Ok, Err, sym, ap, ◌∙◌, subst, arith}
-use Rattle.std.specs.List.{AllByRecursion}
-use Rattle.std.proofs.ByRecursion.{All-take, All-drop, All-weaker, All-map}
+use Rattle.std.proofs.Common.{◌≡◌, ℕ, ◌+◌, ◌*◌, cond, leb, List, length, take, drop, Ok, Err, sym, ap, ◌∙◌, subst, arith}
+use Rattle.std.specs.List.{All}
+use Rattle.std.proofs.lemmas.List.Elements.{All-take, All-drop}
 use Rattle.std.proofs.lemmas.Bool.{cond-true, le-leb}
 use Rattle.fields.specs.Buffers.{put}
 use Rattle.fields.proofs.Puts.{take_put}
 use Rattle.records.specs.Faults.{fault, onward}
-use Rattle.records.specs.Layouts.{application_of, application_fits, request_of, request_fits, event_record_of, event_fits}
 use Rattle.records.specs.declared.fault.Layer.TheVariants.{Contents as InContents}
 use Rattle.records.specs.declared.fault.Cause.TheVariants.{Buffer}
-use Rattle.records.proofs.RecordTrips.{Byte, settings_of_fits, application_of_fits, request_of_fits, event_record_of_fits}
-use Rattle.bodies.specs.Bodies.{chunks, judged}
+use Rattle.records.proofs.RecordTrips.{Byte, settings_of_fits, application_trips, request_trips, event_trips}
+use Rattle.bodies.specs.Bodies.{judged}
 use Rattle.bodies.specs.Judging.{judge_name}
 use Rattle.files.specs.Contents.{judge_counts, end_of, requests_at, events_at}
-use Rattle.files.specs.Reading.{Parts, parts, pieces, tables, judge_roster, opened, read}
+use Rattle.files.specs.Reading.{Parts, parts, tables, judge_roster, opened, read}
 use Rattle.files.specs.Tables.{Tables, bytes_of}
 use Rattle.files.specs.Writing.{Fits, Makes, judge_tables, write_answer}
-use Rattle.files.specs.declared.contents.Contents.{Contents}
+use Rattle.files.specs.Counts.{Counts}
+use Rattle.files.proofs.Bodies.{read_fits}
 use Rattle.files.proofs.Steps.{both_ok, test_ok}
 use Rattle.files.proofs.ReadBack.{read_back, length_file, counted, few_counts}
 use Rattle.files.proofs.Rewritten.{rewritten, few_again, parts_again}
 
-all_chunks : (w n : ℕ) (bs : List ℕ) → AllByRecursion Byte bs → AllByRecursion (AllByRecursion Byte) (chunks w n bs)
-all_chunks w zero bs each = tt
-all_chunks w (suc n) bs each = (All-take Byte w bs each, all_chunks w n (drop w bs) (All-drop Byte w bs each))
-
--- records that were read from a part of the file fit their fields
-all_records : {X : Type 0} (get : List ℕ → X) (P : X → Type 0) → ((bs : List ℕ) → AllByRecursion Byte bs → P (get bs)) → (w : ℕ) (body : List ℕ) → AllByRecursion Byte body → AllByRecursion P (map get (pieces w body))
-all_records get P fits w body each = All-map P get (pieces w body) (All-weaker (AllByRecursion Byte) (λ bs. P (get bs)) fits (pieces w body) (all_chunks w (length body / w) body each))
-
-fits_again : (c : Contents) (bs : List ℕ) → AllByRecursion Byte bs → Fits (tables (parts c bs))
+fits_again : (c : Counts) (bs : List ℕ) → All Byte bs → Fits (tables (parts c bs))
 fits_again c bs each =
-    let part : (at n : ℕ) → AllByRecursion Byte (take n (drop at bs)) = λ at n. All-take Byte n (drop at bs) (All-drop Byte at bs each) in
+    let part : (at n : ℕ) → All Byte (take n (drop at bs)) = λ at n. All-take Byte n (drop at bs) (All-drop Byte at bs each) in
     record {
       settings = settings_of_fits (parts c bs).settings_body.bytes (part 32 8);
-      applications = all_records application_of application_fits application_of_fits 8 (parts c bs).applications.bytes (part 40 (8 * c.applications));
-      requests = all_records request_of request_fits request_of_fits 16 (parts c bs).requests.bytes (part (requests_at c.applications) (16 * c.requests));
-      events = all_records event_record_of event_fits event_record_of_fits 16 (parts c bs).events.bytes (part (events_at c.applications c.requests) (16 * c.events));
+      applications = read_fits application_trips (parts c bs).applications.bytes (part 40 (8 * c.applications));
+      requests = read_fits request_trips (parts c bs).requests.bytes (part (requests_at c.applications) (16 * c.requests));
+      events = read_fits event_trips (parts c bs).events.bytes (part (events_at c.applications c.requests) (16 * c.events));
     }
 
 -- the length of an accepted file, from its tables
-judged_length : (t : Tables) (c : Contents) → judge_tables t ≡ Ok c → end_of c ≡ length (bytes_of t)
+judged_length : (t : Tables) (c : Counts) → judge_tables t ≡ Ok c → end_of c ≡ length (bytes_of t)
 judged_length t c ok =
     let a = length t.applications in
     let r = length t.requests in
@@ -52,7 +44,7 @@ judged_length t c ok =
     let same : first.0 ≡ c = cc third.2 in
     ap end_of (sym same ∙ sym (counted a r e first.0 first.1)) ∙ sym (length_file t)
 
-pub makes : (bs : List ℕ) (p : Parts) → AllByRecursion Byte bs → opened bs ≡ Ok p → Makes (tables p) bs
+pub makes : (bs : List ℕ) (p : Parts) → All Byte bs → opened bs ≡ Ok p → Makes (tables p) bs
 makes bs p each ok =
     let t = tables p in
     let same = rewritten bs p each ok in

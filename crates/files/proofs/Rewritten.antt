@@ -1,8 +1,8 @@
 -- What was read is written back as it stood. Assumes nothing.
 use Rattle.std.proofs.Common.{◌≡◌, ℕ, ◌+◌, ◌*◌, ◌/◌, ◌≤◌, ◌&&◌, eqb, ltb, leb, List, ◌++◌, map, length, take, drop, Ok, sym, ap, ◌∙◌, subst, ap₂, arith}
-use Rattle.std.specs.List.{flat_map, AllByRecursion}
+use Rattle.std.specs.List.{flat_map, All}
 use Rattle.std.proofs.lemmas.List.{take-append-drop, length-take-le, length-drop, drop-drop, take_all}
-use Rattle.std.proofs.ByRecursion.{All-take, All-drop}
+use Rattle.std.proofs.lemmas.List.Elements.{All-take, All-drop}
 use Rattle.std.proofs.lemmas.Bool.{and_parts, eqb-true, leb-true}
 use Rattle.fields.specs.Numbers.{bytes, number, field}
 use Rattle.fields.proofs.Digits.{bytes_number}
@@ -10,16 +10,16 @@ use Rattle.records.specs.Faults.{fault}
 use Rattle.records.specs.Layouts.{settings_bytes, settings_of, settings_sound, application_bytes, application_of, application_sound, request_bytes, request_of, request_sound, event_bytes, event_record_of, event_sound}
 use Rattle.records.specs.declared.fault.Layer.TheVariants.{Contents as InContents}
 use Rattle.records.specs.declared.fault.Cause.TheVariants.{TooShort}
-use Rattle.records.proofs.RecordTrips.{Byte, settings_written, application_written, request_written, event_record_written}
+use Rattle.records.proofs.RecordTrips.{Byte, settings_written, application_trips, request_trips, event_trips}
 use Rattle.bodies.specs.Bodies.{judged}
 use Rattle.bodies.specs.Judging.{between, judge_settings, judge_application, judge_request, judge_event}
-use Rattle.files.specs.Contents.{misplaced, entry, contents, counts, requests_at, events_at, end_of}
+use Rattle.files.specs.Contents.{misplaced, entry, contents, requests_at, events_at, end_of}
 use Rattle.files.specs.Reading.{Parts, parts, pieces, tables, judge_records, judge_roster, opened}
 use Rattle.files.specs.Tables.{contents_bytes, counts_of, bytes_of}
 use Rattle.files.specs.Writing.{Countable}
-use Rattle.files.specs.declared.contents.Contents.{Contents}
+use Rattle.files.specs.Counts.{Counts, counts}
 use Rattle.files.proofs.Steps.{both_ok, test_ok, past_test}
-use Rattle.files.proofs.Bodies.{body_again}
+use Rattle.files.proofs.Bodies.{read_laid}
 use Rattle.files.proofs.Rows.{count}
 
 -- an accepted entry
@@ -43,14 +43,14 @@ entry_ok k offset least most n bs h =
     }
 
 -- accepted contents
-record Known (c : Contents) (bs : List ℕ) : Type 0 where
+record Known (c : Counts) (bs : List ℕ) : Type 0 where
   settings : Entry 0 32 1 1 1 bs
   applications : Entry 1 40 0 15 c.applications bs
   requests : Entry 2 (requests_at c.applications) 0 960 c.requests bs
   events : Entry 3 (events_at c.applications c.requests) 0 960 c.events bs
   ends : length bs ≡ end_of c
 
-contents_ok : (bs : List ℕ) (c : Contents) → contents bs ≡ Ok c → Known c bs
+contents_ok : (bs : List ℕ) (c : Counts) → contents bs ≡ Ok c → Known c bs
 contents_ok bs c h =
     let long = past_test (ltb (length bs) 32) (fault InContents TooShort 0) _ c h in
     let first = both_ok (entry 0 32 1 1 bs) _ c long.1 in
@@ -71,7 +71,7 @@ contents_ok bs c h =
       ends = eqb-true (length bs) (end_of (counts a r e)) whole.0;
     })
 
-module _ (bs : List ℕ) (each : AllByRecursion Byte bs) where
+module _ (bs : List ℕ) (each : All Byte bs) where
   -- a field and what is behind it, as they stood
   field_on : (at n : ℕ) (rest : List ℕ) → at + n ≤ length bs → rest ≡ drop (at + n) bs → bytes n (field at n bs) ++ rest ≡ drop at bs
   field_on at n rest h behind =
@@ -90,7 +90,7 @@ module _ (bs : List ℕ) (each : AllByRecursion Byte bs) where
       ap₂ (λ o m. bytes 4 o ++ (bytes 4 m ++ rest)) (sym known.begins) (sym known.has)
       ∙ field_on (8 * k) 4 (bytes 4 (field (8 * k + 4) 4 bs) ++ rest) (omega arith) (field_on (8 * k + 4) 4 rest h behind)
 
-  head_on : (c : Contents) (rest : List ℕ) → Known c bs → rest ≡ drop 32 bs → contents_bytes c ++ rest ≡ bs
+  head_on : (c : Counts) (rest : List ℕ) → Known c bs → rest ≡ drop 32 bs → contents_bytes c ++ rest ≡ bs
   head_on c rest known behind =
       let long : 40 ≤ length bs = omega (arith, known.ends) in
       let d = entry_on 3 (events_at c.applications c.requests) 0 960 c.events rest known.events (omega arith) behind in
@@ -98,7 +98,7 @@ module _ (bs : List ℕ) (each : AllByRecursion Byte bs) where
       let f = entry_on 1 40 0 15 c.applications _ known.applications (omega arith) e in
       entry_on 0 32 1 1 1 _ known.settings (omega arith) f
 
-  module _ (c : Contents) (known : Known c bs) where
+  module _ (c : Counts) (known : Known c bs) where
     abbrev set : List ℕ
     set = (parts c bs).settings_body.bytes
 
@@ -115,7 +115,7 @@ module _ (bs : List ℕ) (each : AllByRecursion Byte bs) where
     length_part : (at n : ℕ) → at + n ≤ length bs → length (take n (drop at bs)) ≡ n
     length_part at n h = length-take-le n (drop at bs) (omega (arith, length-drop at bs))
 
-    all_part : (at n : ℕ) → AllByRecursion Byte (take n (drop at bs))
+    all_part : (at n : ℕ) → All Byte (take n (drop at bs))
     all_part at n = All-take Byte n (drop at bs) (All-drop Byte at bs each)
 
     same_settings : judge_settings set ≡ Ok tt → settings_bytes (settings_of set) ≡ set
@@ -124,24 +124,20 @@ module _ (bs : List ℕ) (each : AllByRecursion Byte bs) where
 
     same_applications : judged judge_application 0 (pieces 8 xs) ≡ Ok tt → flat_map application_bytes (map application_of (pieces 8 xs)) ≡ xs
     same_applications ok =
-        let size = length_part 40 (8 * c.applications) (omega (arith, known.ends)) in
-        body_again application_bytes application_of 8 judge_application (λ i ys n all fine. application_written ys n all (test_ok (application_sound ys) tt tt _ fine).0)
-        (length xs / 8) 0 xs (omega (arith, size)) (all_part 40 (8 * c.applications)) ok
+        read_laid application_trips judge_application (λ i ys fine. (test_ok (application_sound ys) tt tt _ fine).0) c.applications xs
+        (length_part 40 (8 * c.applications) (omega (arith, known.ends))) (all_part 40 (8 * c.applications)) ok
 
     same_requests : judged (judge_request (requests_at c.applications)) 0 (pieces 16 rs) ≡ Ok tt → flat_map request_bytes (map request_of (pieces 16 rs)) ≡ rs
     same_requests ok =
         let at = requests_at c.applications in
-        let size = length_part at (16 * c.requests) (omega (arith, known.ends)) in
-        body_again request_bytes request_of 16 (judge_request at) (λ i ys n all fine. request_written ys n all (test_ok (request_sound ys) tt tt _ fine).0)
-        (length rs / 16) 0 rs (omega (arith, size)) (all_part at (16 * c.requests)) ok
+        read_laid request_trips (judge_request at) (λ i ys fine. (test_ok (request_sound ys) tt tt _ fine).0) c.requests rs
+        (length_part at (16 * c.requests) (omega (arith, known.ends))) (all_part at (16 * c.requests)) ok
 
     same_events : (n : ℕ) → judged (judge_event (events_at c.applications c.requests) n) 0 (pieces 16 es) ≡ Ok tt → flat_map event_bytes (map event_record_of (pieces 16 es)) ≡ es
     same_events n ok =
         let at = events_at c.applications c.requests in
-        let size = length_part at (16 * c.events) (omega (arith, known.ends)) in
-        body_again event_bytes event_record_of 16 (judge_event at n)
-        (λ i ys m all fine. event_record_written ys m all (test_ok (event_sound ys) tt tt _ (both_ok _ _ tt fine).1).0)
-        (length es / 16) 0 es (omega (arith, size)) (all_part at (16 * c.events)) ok
+        read_laid event_trips (judge_event at n) (λ i ys fine. (test_ok (event_sound ys) tt tt _ (both_ok _ _ tt fine).1).0) c.events es
+        (length_part at (16 * c.events) (omega (arith, known.ends))) (all_part at (16 * c.events)) ok
 
     same_counts : counts_of (tables (parts c bs)) ≡ c
     same_counts =
@@ -166,7 +162,7 @@ module _ (bs : List ℕ) (each : AllByRecursion Byte bs) where
         ∙ head_on c _ known g
 
 -- whatever bytes are accepted, their tables make the same bytes
-pub rewritten : (bs : List ℕ) (p : Parts) → AllByRecursion Byte bs → opened bs ≡ Ok p → bytes_of (tables p) ≡ bs
+pub rewritten : (bs : List ℕ) (p : Parts) → All Byte bs → opened bs ≡ Ok p → bytes_of (tables p) ≡ bs
 rewritten bs p each ok =
     let first = both_ok (contents bs) _ p ok in
     let c = first.0 in
@@ -176,7 +172,7 @@ rewritten bs p each ok =
     subst (λ q. bytes_of (tables q) ≡ bs) same (same_bytes bs each c (contents_ok bs c first.1) second.1)
 
 -- accepted bytes have no more records than they may
-pub few_again : (bs : List ℕ) (p : Parts) → AllByRecursion Byte bs → opened bs ≡ Ok p → Countable (tables p)
+pub few_again : (bs : List ℕ) (p : Parts) → All Byte bs → opened bs ≡ Ok p → Countable (tables p)
 few_again bs p each ok =
     let first = both_ok (contents bs) _ p ok in
     let c = first.0 in
@@ -192,7 +188,7 @@ few_again bs p each ok =
       events = omega (arith, ap (λ k. k.events) counted, known.events.high);
     })
 
-pub parts_again : (bs : List ℕ) (p : Parts) → opened bs ≡ Ok p → (c : Contents) × (parts c bs ≡ p)
+pub parts_again : (bs : List ℕ) (p : Parts) → opened bs ≡ Ok p → (c : Counts) × (parts c bs ≡ p)
 parts_again bs p ok =
     let first = both_ok (contents bs) _ p ok in
     let c = first.0 in

@@ -1,29 +1,26 @@
 -- What an accepted step says of its parts. Assumes nothing.
-use Rattle.std.proofs.Common.{◌≡◌, ℕ, Bool, true, false, cond, Ok, Err, Result, refl, arith}
+use Rattle.std.proofs.Common.{◌≡◌, Bool, true, false, cond, Ok, Err, Result, refl}
 use Rattle.records.specs.Faults.{onward}
 use Rattle.records.specs.declared.fault.Fault.{Fault}
-
-never : {A X : Type 0} (e : Fault) (x : X) → ◌≡◌ {A = Result X Fault} (Err e) (Ok x) → A
-never e x h = let z : ◌≡◌ {A = ℕ} 0 1 = cc in absurd (omega arith)
 
 -- a step after another
 pub both_ok : {X Y : Type 0} (r : Result X Fault) (f : X → Result Y Fault) (y : Y) → onward r f ≡ Ok y → (x : X) × (r ≡ Ok x) × (f x ≡ Ok y)
 both_ok (Ok x) f y h = (x, refl, h)
-both_ok (Err e) f y h = never e y h
+both_ok (Err e) f y h = absurd (cc)
 
 -- a test that lets pass
 pub test_ok : {X : Type 0} (b : Bool) (x y : X) (e : Fault) → cond b (Ok x) (Err e) ≡ Ok y → (b ≡ true) × (x ≡ y)
 test_ok true x y e h = (refl, cc)
-test_ok false x y e h = never e y h
+test_ok false x y e h = absurd (cc)
 
 -- a test that lets pass to another
 pub passed_test : {X : Type 0} (b : Bool) (r : Result X Fault) (e : Fault) (y : X) → cond b r (Err e) ≡ Ok y → (b ≡ true) × (r ≡ Ok y)
 passed_test true r e y h = (refl, h)
-passed_test false r e y h = never e y h
+passed_test false r e y h = absurd (cc)
 
 -- a test that keeps out
 pub past_test : {X : Type 0} (b : Bool) (e : Fault) (r : Result X Fault) (y : X) → cond b (Err e) r ≡ Ok y → (b ≡ false) × (r ≡ Ok y)
-past_test true e r y h = never e y h
+past_test true e r y h = absurd (cc)
 past_test false e r y h = (refl, h)
 
 -- steps that go on alike

@@ -1,12 +1,12 @@
 -- The first layer: what the contents at a file's head say, and whether it can be so.
-use Rattle.std.specs.Prelude.{◌≡◌, ℕ, ◌+◌, ◌*◌, ◌≤◌, cond, ◌&&◌, List, length, Ok, Err, Result, ◌==◌, nat_le, nat_lt}
+use Rattle.std.specs.Prelude.{ℕ, ◌+◌, ◌*◌, cond, ◌&&◌, List, length, Ok, Err, Result, ◌==◌, nat_le, nat_lt}
 use Rattle.fields.specs.Numbers.{field}
 use Rattle.records.specs.Faults.{fault, onward}
 use Rattle.records.specs.declared.fault.Fault.{Fault}
 use Rattle.records.specs.declared.fault.Layer.TheVariants.{Contents as InContents}
 use Rattle.records.specs.declared.fault.Cause.TheVariants.{TooShort, Layout}
 use Rattle.bodies.specs.Judging.{between}
-use Rattle.files.specs.declared.contents.Contents.{Contents}
+use Rattle.files.specs.Counts.{Counts, counts}
 
 -- an entry that is wrong, or at place 4 the file's end
 abbrev pub misplaced : ℕ → Fault
@@ -24,13 +24,10 @@ requests_at applications = 40 + 8 * applications
 abbrev pub events_at : ℕ → ℕ → ℕ
 events_at applications requests = 40 + 8 * applications + 16 * requests
 
-abbrev pub end_of : Contents → ℕ
+abbrev pub end_of : Counts → ℕ
 end_of c = 40 + 8 * c.applications + 16 * c.requests + 16 * c.events
 
-abbrev pub counts : ℕ → ℕ → ℕ → Contents
-counts applications requests events = record { applications = applications; requests = requests; events = events }
-
-abbrev pub contents : List ℕ → Result Contents Fault
+abbrev pub contents : List ℕ → Result Counts Fault
 contents bs =
     cond (nat_lt (length bs) 32) (Err (fault InContents TooShort 0))
     (onward (entry 0 32 1 1 bs)
@@ -40,19 +37,6 @@ contents bs =
     (λ e. cond (length bs == end_of (counts a r e)) (Ok (counts a r e)) (Err (misplaced 4)))))))
 
 -- the contents of a file of so many records
-abbrev pub judge_counts : ℕ → ℕ → ℕ → Result Contents Fault
+abbrev pub judge_counts : ℕ → ℕ → ℕ → Result Counts Fault
 judge_counts a r e =
     cond (nat_le a 15) (cond (nat_le r 960) (cond (nat_le e 960) (Ok (counts a r e)) (Err (misplaced 3))) (Err (misplaced 2))) (Err (misplaced 1))
-
--- no body has more records than it may
-pub record Few (c : Contents) : Type 0 where
-  pub applications : c.applications ≤ 15
-  pub requests : c.requests ≤ 960
-  pub events : c.events ≤ 960
-
--- what is known of contents that were accepted
-pub record Sized (c : Contents) (bs : List ℕ) : Type 0 where
-  pub few_applications : c.applications ≤ 15
-  pub few_requests : c.requests ≤ 960
-  pub few_events : c.events ≤ 960
-  pub ends : length bs ≡ end_of c

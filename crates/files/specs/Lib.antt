@@ -1,3 +1,4 @@
+pub mod Counts
 pub mod Contents
 pub mod Parts
 pub mod Tables

@@ -1,5 +1,5 @@
 -- What is read from a file: its parts and their tables, or its first fault.
-use Rattle.std.specs.Prelude.{◌≡◌, ℕ, ◌*◌, ◌/◌, ◌≤◌, List, map, length, Ok, Result}
+use Rattle.std.specs.Prelude.{ℕ, ◌*◌, ◌/◌, List, map, length, Ok, Result}
 use Rattle.records.specs.Faults.{onward}
 use Rattle.records.specs.Layouts.{settings_of, application_of, request_of, event_record_of}
 use Rattle.records.specs.declared.fault.Fault.{Fault}
@@ -10,7 +10,7 @@ use Rattle.bodies.specs.Judging.{judge_settings, judge_application, judge_reques
 use Rattle.files.specs.Contents.{contents, requests_at, events_at}
 use Rattle.files.specs.Parts.{Part, part}
 use Rattle.files.specs.Tables.{Tables}
-use Rattle.files.specs.declared.contents.Contents.{Contents}
+use Rattle.files.specs.Counts.{Counts}
 
 -- the bodies, and the settings
 pub record Parts : Type 0 where
@@ -20,7 +20,7 @@ pub record Parts : Type 0 where
   pub requests : Part
   pub events : Part
 
-abbrev pub parts : Contents → List ℕ → Parts
+abbrev pub parts : Counts → List ℕ → Parts
 parts c bs =
     record {
       settings = settings_of (part 32 8 bs).bytes;
@@ -29,13 +29,6 @@ parts c bs =
       requests = part (requests_at c.applications) (16 * c.requests) bs;
       events = part (events_at c.applications c.requests) (16 * c.events) bs;
     }
-
--- what is known of the parts of a file whose contents were accepted
-pub record Bounded (p : Parts) : Type 0 where
-  pub one : length p.settings_body.bytes ≡ 8
-  pub few_applications : length p.applications.bytes ≤ 120
-  pub few_requests : length p.requests.bytes ≤ 15360
-  pub few_events : length p.events.bytes ≤ 15360
 
 -- how many records of w bytes a body has, and their bytes
 abbrev pub pieces : ℕ → List ℕ → List (List ℕ)

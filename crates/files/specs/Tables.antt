@@ -7,8 +7,8 @@ use Rattle.records.specs.declared.tables.Settings.{Settings}
 use Rattle.records.specs.declared.tables.ApplicationRecord.{ApplicationRecord}
 use Rattle.records.specs.declared.tables.RequestRecord.{RequestRecord}
 use Rattle.records.specs.declared.tables.EventRecord.{EventRecord}
-use Rattle.files.specs.Contents.{requests_at, events_at, counts}
-use Rattle.files.specs.declared.contents.Contents.{Contents}
+use Rattle.files.specs.Contents.{requests_at, events_at}
+use Rattle.files.specs.Counts.{Counts, counts}
 
 pub record Tables : Type 0 where
   pub settings : Settings
@@ -17,7 +17,7 @@ pub record Tables : Type 0 where
   pub events : List EventRecord
 
 -- how many records each body has
-abbrev pub counts_of : Tables → Contents
+abbrev pub counts_of : Tables → Counts
 counts_of t = counts (length t.applications) (length t.requests) (length t.events)
 
 -- an entry of the contents: where a body begins, and how many records it has
@@ -25,7 +25,7 @@ abbrev pub entry_bytes : ℕ → ℕ → List ℕ
 entry_bytes offset count = bytes 4 offset ++ bytes 4 count
 
 -- the contents at the file's head
-abbrev pub contents_bytes : Contents → List ℕ
+abbrev pub contents_bytes : Counts → List ℕ
 contents_bytes c =
     entry_bytes 32 1 ++ (entry_bytes 40 c.applications ++ (entry_bytes (requests_at c.applications) c.requests ++ entry_bytes (events_at c.applications c.requests) c.events))
 

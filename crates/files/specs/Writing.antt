@@ -1,6 +1,6 @@
 -- What the writer answers, and what it leaves in the buffer.
 use Rattle.std.specs.Prelude.{◌≡◌, ℕ, ◌^◌, ◌<◌, ◌≤◌, cond, List, length, Ok, Err, Result, nat_le}
-use Rattle.std.specs.List.{AllByRecursion}
+use Rattle.std.specs.List.{All}
 use Rattle.fields.specs.Buffers.{put}
 use Rattle.records.specs.Faults.{fault, onward}
 use Rattle.records.specs.Layouts.{settings_fits, application_fits, request_fits, event_fits}
@@ -16,13 +16,13 @@ use Rattle.bodies.specs.Judging.{judge_name}
 use Rattle.files.specs.Contents.{events_at, end_of, judge_counts}
 use Rattle.files.specs.Reading.{judge_roster, read}
 use Rattle.files.specs.Tables.{Tables, bytes_of}
-use Rattle.files.specs.declared.contents.Contents.{Contents}
+use Rattle.files.specs.Counts.{Counts}
 
 abbrev pub given : Settings → List ApplicationRecord → List RequestRecord → List EventRecord → Tables
 given s xs rs es = record { settings = s; applications = xs; requests = rs; events = es }
 
 -- the contents of the file, or the first fault that a reader would find in it
-abbrev pub judge_tables : Tables → Result Contents Fault
+abbrev pub judge_tables : Tables → Result Counts Fault
 judge_tables t =
     onward (judge_counts (length t.applications) (length t.requests) (length t.events))
     (λ c. onward (judged (judge_name (events_at c.applications c.requests) c.requests) 0 t.events)
@@ -41,9 +41,9 @@ written (Err e) t out = out
 -- every number lies within its field
 pub record Fits (t : Tables) : Type 0 where
   pub settings : settings_fits t.settings
-  pub applications : AllByRecursion application_fits t.applications
-  pub requests : AllByRecursion request_fits t.requests
-  pub events : AllByRecursion event_fits t.events
+  pub applications : All application_fits t.applications
+  pub requests : All request_fits t.requests
+  pub events : All event_fits t.events
 
 -- every record count lies within its field, as it does in any file
 pub record Countable (t : Tables) : Type 0 where

@@ -1,9 +1,11 @@
 //! Parts of the caller's bytes.
 
-ghost use Rattle.std.specs.Prelude.{◌≡◌, ◌+◌, ◌^◌, ◌<◌, ◌≤◌, length, IfSome};
-ghost use Rattle.files.specs.Parts.{part, part_of, piece_at, pieced};
+ghost use Rattle.std.specs.Prelude.{◌≡◌, ◌+◌, ◌/◌, ◌^◌, ◌<◌, ◌≤◌, length, map};
+ghost use Rattle.files.specs.Parts.{part, part_of, placed};
+ghost use Rattle.files.specs.Reading.{pieces};
 
 use fields::get::cut;
+use records::record::Record;
 
 /// A body: a part of the file, and where it begins.
 #[derive(Clone, Copy)]
@@ -32,33 +34,31 @@ impl<'a> Body<'a> {
         }
     }
 
-    /// The bytes of the record at that index, in a body of records of 8 bytes.
-    pub fn piece_of_8(&self, index: usize) -> Option<Placed<&'a [u8]>>
-        ensures value { pieced result ≡ piece_at 8 index (part_of self.now) }
-        ensures len { IfSome result (λ p. length p.value.now ≡ 8) }
+    /// The bytes of each record, in a body of records of `N` bytes.
+    pub fn pieces<const N: usize>(&self) -> &'a [[u8; N]]
+        requires { 0 < N }
+        ensures value { result.now ≡ pieces N self.now.bytes.now }
+        ensures len { length result.now ≡ length self.now.bytes.now / N }
     {
-        let Body { offset, bytes } = *self;
-        if index >= bytes.len() / 8 {
-            return None;
-        }
-        Some(Placed {
-            offset: offset as usize + 8 * index,
-            value: cut(bytes, 8 * index, 8),
-        })
+        let bytes = self.bytes;
+        bytes.as_chunks().0
     }
 
-    /// The bytes of the record at that index, in a body of records of 16 bytes.
-    pub fn piece_of_16(&self, index: usize) -> Option<Placed<&'a [u8]>>
-        ensures value { pieced result ≡ piece_at 16 index (part_of self.now) }
-        ensures len { IfSome result (λ p. length p.value.now ≡ 16) }
+    /// How many records of a kind there are.
+    pub fn count<const N: usize, R: Record<N>>(&self) -> usize
+        ensures { result ≡ length (map R.Record.parsed (pieces N self.now.bytes.now)) }
     {
-        let Body { offset, bytes } = *self;
-        if index >= bytes.len() / 16 {
-            return None;
-        }
+        self.pieces::<N>().len()
+    }
+
+    /// The record of a kind at that index.
+    pub fn record<const N: usize, R: Record<N>>(&self, index: usize) -> Option<Placed<R>>
+        ensures { result ≡ placed self.now.offset N (map R.Record.parsed (pieces N self.now.bytes.now)) index }
+    {
+        let bytes = self.pieces::<N>().get(index)?;
         Some(Placed {
-            offset: offset as usize + 16 * index,
-            value: cut(bytes, 16 * index, 16),
+            offset: self.offset as usize + N * index,
+            value: R::of(bytes),
         })
     }
 }

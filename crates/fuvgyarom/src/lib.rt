@@ -10,9 +10,12 @@ ghost use Rattle.fuvgyarom.specs.Statuses.{Answered};
 ghost use Rattle.replays.specs.Replays.{FilePromises};
 
 use replays::replay::replay;
-use replays::unlisted::Unlisted;
 use std::alloc::Global;
 
+/// What the call answers where there is no memory; no refusal has this number.
+const NO_MEMORY: u8 = 255;
+
+// A number and no Result: a C program calls it.
 /// Replays a trace into a buffer for its listing. Answers 0, and how many bytes were written; or 18 if
 /// the buffer is under 62,464 bytes; or 255 if there is no memory. Nothing is written then.
 #[unsafe(no_mangle)]
@@ -30,13 +33,9 @@ pub extern "C" fn fuvgyarom_replay(
             *written = end;
             0
         }
-        Err(Unlisted::Buffer) => {
+        Err(unlisted) => {
             *written = 0;
-            18
-        }
-        Err(Unlisted::Memory) => {
-            *written = 0;
-            255
+            unlisted.number().unwrap_or(NO_MEMORY)
         }
     }
 }

@@ -53,7 +53,7 @@ module _ (choice : Choice) (first : ℕ → ℕ) (next : Rule) (lawful : Lawful 
     other : (j : ℕ) → (j ≡ q.application → ⊥) → joins j (Some q) (x j) ≡ x j
     other = joins_other _ m.count m.total m.table.sent m.lists x sealed.few inv.core.lined q listed room number size_low size_high end_high sum_high
 
-    own : joins q.application (Some q) (x q.application) ≡ record { waiting = (x q.application).waiting ++ (q ∷ []); outstanding = (x q.application).outstanding; latest = (x q.application).latest }
+    own : joins q.application (Some q) (x q.application) ≡ record (x q.application) { waiting = (x q.application).waiting ++ (q ∷ []) }
     own = joins_own _ m.count m.total m.table.sent m.lists x sealed.few inv.core.lined q listed room number size_low size_high end_high sum_high
 
     -- now its requests wait

@@ -34,9 +34,9 @@ module _ (choice : Choice) (first : ℕ → ℕ) (next : Rule) (lawful : Lawful 
       other : (j : ℕ) → (j ≡ k → ⊥) → ends j m.clock (Some token) (x j) ≡ x j
       other j ne =
           let none : (x j).outstanding ≡ [] = none_out _ r.hold m.clock m.table x stood j (λ s. ne (let z : Some j ≡ Some k = sym s ∙ e in cc)) in
-          ap (λ o. record { waiting = (x j).waiting; outstanding = filter (otherwise_numbered token.number) o; latest = (new j).latest }) none
-          ∙ ap (λ o. record { waiting = (x j).waiting; outstanding = o; latest = (new j).latest }) (sym none)
-          ∙ ap (λ l. record { waiting = (x j).waiting; outstanding = (x j).outstanding; latest = l })
+          ap (λ o. record (new j) { outstanding = filter (otherwise_numbered token.number) o }) none
+          ∙ ap (λ o. record (new j) { outstanding = o }) (sym none)
+          ∙ ap (λ l. record (x j) { latest = l })
           (cond-false (eqb token.application j) (Some (record { time = m.clock; kind = token.kind })) (x j).latest (ne_eqb token.application j (λ s. ne (sym s ∙ own))))
 
       none_left : (ends k m.clock (Some token) (x k)).outstanding ≡ []

@@ -1,7 +1,8 @@
 -- A dispatch: what it sends or why it sends nothing.
-use Rattle.std.proofs.Common.{◌≡◌, ℕ, ◌+◌, ◌<◌, ◌≤◌, Bool, true, false, cond, ◌⊎◌, [], length, Some, None, Option, sym, refl, ap, ◌∙◌, subst, inl, inr, arith}
+use Rattle.std.proofs.Common.{◌≡◌, ℕ, ◌+◌, ◌<◌, ◌≤◌, Bool, true, false, cond, ◌⊎◌, [], length, Some, None, Option, sym, refl, ap, ◌∙◌, subst, inl, inr, ⊎_elim, arith}
 use Rattle.std.specs.List.{slice_get}
 use Rattle.std.proofs.lemmas.List.{get_or-set_same}
+use Rattle.std.proofs.lemmas.Option.{slice_get_cases}
 use Rattle.std.proofs.lemmas.Bool.{cases_eq, leb-true, leb-false, true≢false, false≢true}
 use Rattle.rosters.specs.Rosters.{LineUp}
 use Rattle.rosters.specs.Stamps.{by_status, no_stamp}
@@ -20,7 +21,6 @@ use Rattle.machine.specs.declared.event.Event.TheVariants.{Dispatch}
 use Rattle.histories.specs.History as history
 use Rattle.histories.specs.History.{Answer, sends, holds, none, Known, NotRecent, dispatch, told, moved_by, sectors, sectors_for}
 use Rattle.histories.specs.Promises.{Lawful, Sealed, Lingering, replied}
-use Rattle.histories.proofs.Requests.{nth_some}
 use Rattle.histories.proofs.Tables.{pick_finds, pick_misses, picked_is, charged_table}
 use Rattle.histories.proofs.Courses.{Led, led_none, led_after}
 use Rattle.histories.proofs.Invariant.{Waits, Stands, Stood, Disk, vacant, working, ready, held, Core, Inv, serves, not_serving, idle_or_waits}
@@ -46,7 +46,9 @@ module _ (choice : Choice) (first : ℕ → ℕ) (next : Rule) (lawful : Lawful 
 
     -- what is chosen where something waits
     chosen : (k : ℕ) → Waits (x k) → (q : Request) × (next_of choice next k m ≡ Some q)
-    chosen k w = nth_some (line m.lists k) (choice (line m.lists k) m.head) (lawful.within (line m.lists k) m.head (omega (arith, w.some, ap length (core.lined.lines k))))
+    chosen k w =
+        let within = lawful.within (line m.lists k) m.head (omega (arith, w.some, ap length (core.lined.lines k))) in
+        ⊎_elim (λ s. (s.0, s.2)) (λ past. absurd (omega (arith, within, past.0))) (slice_get_cases (line m.lists k) (choice (line m.lists k) m.head)).1
 
     -- where the one that serves has requests waiting, nobody lingers
     nobody : ((k : ℕ) → m.table.serving ≡ Some k → Waits (x k)) → (j : ℕ) → Lingering r.hold m.clock last j (x j) → ⊥
@@ -211,7 +213,7 @@ module _ (choice : Choice) (first : ℕ → ℕ) (next : Rule) (lawful : Lawful 
           go Idle h = o
           go Queued h = o
           go Serving h = absurd (true≢false h)
-      by (working k q e f u d o) = let z : ◌≡◌ {A = ℕ} 0 1 = cc in absurd (omega arith)
+      by (working k q e f u d o) = absurd cc
       by (ready k e f u w) =
           let c = chosen m x last head inv.core k w in
           serving k e (ready_outcome m x last head inv.core k e f u w c.0 c.1)

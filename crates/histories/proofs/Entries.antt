@@ -1,5 +1,5 @@
 -- Every entry of a history keeps the invariant, and is a course of table operations.
-use Rattle.std.proofs.Common.{◌≡◌, ℕ, ◌+◌, ◌^◌, ◌<◌, ◌≤◌, Bool, true, false, cond, not, eqb, ltb, leb, List, [], ◌∷◌, length, Some, None, Option, sym, refl, ap, ◌∙◌, subst, arith}
+use Rattle.std.proofs.Common.{◌≡◌, ℕ, ◌+◌, ◌^◌, ◌<◌, ◌≤◌, Bool, true, false, cond, not, eqb, ltb, leb, List, [], ◌∷◌, length, is_some, Some, None, Option, sym, refl, ap, ◌∙◌, subst, arith}
 use Rattle.std.proofs.lemmas.Bool.{or_parts, and_parts, not-false, ltb-false, leb-true, leb-false, eqb-true, cond-true, true≢false, false≢true}
 use Rattle.rosters.specs.Applications.{between}
 use Rattle.rosters.specs.Rosters.{LineUp}
@@ -12,7 +12,7 @@ use Rattle.pools.specs.declared.request.Kind.TheVariants.{Asynchronous, Synchron
 use Rattle.pools.specs.declared.request.Request.{Request}
 use Rattle.machine.specs.Machine as machine
 use Rattle.machine.specs.Machine.{Machine, Rule, reacted, begun, event, subject}
-use Rattle.machine.specs.Calls.{first_of, unless, out_of_time, arrival_refusal, request, joined, is_some, dispatch_refusal, dispatch_reply, same_kind, differs, mismatch, completion_refusal, tick_refusal, landed}
+use Rattle.machine.specs.Calls.{first_of, unless, out_of_time, arrival_refusal, request, joined, dispatch_refusal, dispatch_reply, same_kind, differs, mismatch, completion_refusal, tick_refusal, landed}
 use Rattle.machine.specs.declared.event.Event.TheVariants.{Arrival, Dispatch, Completion, Tick}
 use Rattle.machine.specs.declared.refusal.Refusal.{Refusal}
 use Rattle.machine.specs.declared.refusal.Refusal.TheVariants.{Time, Application, Size, Sector, Full, Total, Busy, Token}
@@ -37,7 +37,7 @@ failed [] e = tt
 failed (t ∷ ts) e = go t.0 refl e (failed ts)
   where
     go : (b : Bool) → t.0 ≡ b → cond b (Some t.1) (first_of ts) ≡ None → (first_of ts ≡ None → Failed ts) → Failed (t ∷ ts)
-    go true h e more = let z : ◌≡◌ {A = ℕ} 0 1 = cc in absurd (omega arith)
+    go true h e more = absurd cc
     go false h e more = (h, more e)
 
 -- the tests of each call
@@ -78,6 +78,10 @@ same_kinds Asynchronous Synchronous h = absurd (false≢true h)
 same_kinds Synchronous Asynchronous h = absurd (false≢true h)
 same_kinds Synchronous Synchronous h = refl
 
+same_parts : (q p : Request) → q.number ≡ p.number → q.application ≡ p.application → q.first ≡ p.first → q.size ≡ p.size → q.kind ≡ p.kind
+    → record { number = q.number; application = q.application; first = q.first; size = q.size; kind = q.kind } ≡ p
+same_parts q p a b c d e = rw (a, b, c, d, e)
+
 -- a token that differs in no part is the request's
 same_request : (q p : Request) → differs q p ≡ false → q ≡ p
 same_request q p h =
@@ -85,11 +89,12 @@ same_request q p h =
     let b = or_parts (not (eqb q.application p.application)) _ a.1 in
     let c = or_parts (not (eqb q.first p.first)) _ b.1 in
     let d = or_parts (not (eqb q.size p.size)) (not (same_kind q.kind p.kind)) c.1 in
-    ap (λ z. record { number = z; application = q.application; first = q.first; size = q.size; kind = q.kind }) (eqb-true q.number p.number (not-false (eqb q.number p.number) a.0))
-    ∙ ap (λ z. record { number = p.number; application = z; first = q.first; size = q.size; kind = q.kind }) (eqb-true q.application p.application (not-false (eqb q.application p.application) b.0))
-    ∙ ap (λ z. record { number = p.number; application = p.application; first = z; size = q.size; kind = q.kind }) (eqb-true q.first p.first (not-false (eqb q.first p.first) c.0))
-    ∙ ap (λ z. record { number = p.number; application = p.application; first = p.first; size = z; kind = q.kind }) (eqb-true q.size p.size (not-false (eqb q.size p.size) d.0))
-    ∙ ap (λ z. record { number = p.number; application = p.application; first = p.first; size = p.size; kind = z }) (same_kinds q.kind p.kind (not-false (same_kind q.kind p.kind) d.1))
+    let number : q.number ≡ p.number = eqb-true q.number p.number (not-false (eqb q.number p.number) a.0) in
+    let application : q.application ≡ p.application = eqb-true q.application p.application (not-false (eqb q.application p.application) b.0) in
+    let first : q.first ≡ p.first = eqb-true q.first p.first (not-false (eqb q.first p.first) c.0) in
+    let size : q.size ≡ p.size = eqb-true q.size p.size (not-false (eqb q.size p.size) d.0) in
+    let kind : q.kind ≡ p.kind = same_kinds q.kind p.kind (not-false (same_kind q.kind p.kind) d.1) in
+    same_parts q p number application first size kind
 
 matched : (o : Option Request) (token : Request) → mismatch o token ≡ false → o ≡ Some token
 matched None token h = absurd (true≢false h)

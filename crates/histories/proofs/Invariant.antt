@@ -1,7 +1,7 @@
 -- What holds between the machine and the history of its calls, whatever they are: of each application's row
 -- in the table, its line in the pool and what the history tells of it, and of who has the disk.
 use Rattle.std.proofs.Common.{◌≡◌, ℕ, ◌+◌, ◌^◌, ◌<◌, ◌≤◌, true, false, ◌⊎◌, List, [], ◌∷◌, length, Some, None, sum_by, Option, sym, refl, ap, ◌∙◌, subst, inl, inr, ⊎_elim, arith}
-use Rattle.std.specs.List.{AllByRecursion}
+use Rattle.std.specs.List.{All}
 use Rattle.std.proofs.lemmas.List.{get_or_past}
 use Rattle.std.proofs.lemmas.Bool.{cases_lt, cases_eq, eq-eqb, ne_eqb, true≢false, false≢true}
 use Rattle.rosters.specs.Rosters.{LineUp}
@@ -37,7 +37,7 @@ pub record Lined (n count total sent : ℕ) (ls : List (List Request)) (x : ℕ 
   pub sixteen : length ls ≡ 16
   pub lines : (k : ℕ) → (x k).waiting ≡ line ls k
   pub owner : ℕ → ℕ
-  pub fine : (k : ℕ) → AllByRecursion (Fine n owner count k) (x k).waiting
+  pub fine : (k : ℕ) → All (Fine n owner count k) (x k).waiting
   pub rising : (k : ℕ) → Rising (x k).waiting
   pub sums : sent + sum_by sizes ls ≤ total
   pub total_high : total ≤ 2 ^ 40

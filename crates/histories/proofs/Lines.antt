@@ -1,7 +1,9 @@
 -- The lines of waiting requests, as a request joins its line and as one is sent.
 use Rattle.std.proofs.Common.{◌≡◌, ℕ, ◌+◌, ◌^◌, ◌<◌, ◌≤◌, cond, eqb, ◌⊎◌, List, [], ◌∷◌, ◌++◌, length, set, Some, Ok, Err, filter, Result, sym, refl, ap, ◌∙◌, subst, inl, inr, arith}
-use Rattle.std.specs.List.{remove, AllByRecursion, slice_get}
-use Rattle.std.proofs.ByRecursion.{All-weaker, All-push}
+use Rattle.std.specs.List.{remove, All, slice_get}
+use Rattle.std.proofs.lemmas.List.Elements.{All-weaker, All-push}
+use Rattle.std.proofs.lemmas.List.Quantifiers.{all_pairs_push, all_pairs_remove}
+use Rattle.std.proofs.lemmas.Option.{slice_get_within}
 use Rattle.std.proofs.lemmas.List.{append-nil, length-set, get_or-set_same, get_or-set_other}
 use Rattle.std.proofs.lemmas.List.Sums.{sum_by-set, sum_by_push}
 use Rattle.std.proofs.lemmas.Bool.{cases_eq, eq-eqb, ne_eqb, cond-true, cond-false, lt-ltb}
@@ -10,7 +12,7 @@ use Rattle.pools.specs.declared.refusal.Refusal.{Refusal}
 use Rattle.pools.specs.declared.refusal.Refusal.TheVariants.{Unknown, Full}
 use Rattle.pools.specs.declared.request.Request.{Request}
 use Rattle.histories.specs.History.{Known, numbered, joins, leaves}
-use Rattle.histories.proofs.Requests.{Rising, size_of, rising_push, all_removed, rising_removed, all_nth, none_other, all_other, Taken, taken, sum_removed}
+use Rattle.histories.proofs.Requests.{Rising, size_of, all_removed, all_nth, none_other, all_other, Taken, taken, sum_removed}
 use Rattle.histories.proofs.Invariant.{Fine, sizes, Lined}
 
 -- a line changes: what is there, and at the others
@@ -32,9 +34,9 @@ module _ (n count total sent : ℕ) (ls : List (List Request)) (x : ℕ → Know
     pub leaves_other : (j : ℕ) → (j ≡ k → ⊥) → leaves q (x j) ≡ x j
     leaves_other j ne =
         let others = All-weaker (Fine n lined.owner count j) (λ y. y.number ≡ q.number → ⊥) (λ y f same. ne (sym f.named ∙ ap lined.owner same ∙ fine_next.named)) (x j).waiting (lined.fine j) in
-        ap (λ w. record { waiting = w; outstanding = (x j).outstanding ++ filter (numbered q.number) (x j).waiting; latest = (x j).latest }) (all_other q.number (x j).waiting others)
-        ∙ ap (λ w. record { waiting = (x j).waiting; outstanding = (x j).outstanding ++ w; latest = (x j).latest }) (none_other q.number (x j).waiting others)
-        ∙ ap (λ w. record { waiting = (x j).waiting; outstanding = w; latest = (x j).latest }) (append-nil (x j).outstanding)
+        ap (λ w. record (x j) { waiting = w; outstanding = (x j).outstanding ++ filter (numbered q.number) (x j).waiting }) (all_other q.number (x j).waiting others)
+        ∙ ap (λ w. record (x j) { outstanding = (x j).outstanding ++ w }) (none_other q.number (x j).waiting others)
+        ∙ ap (λ w. record (x j) { outstanding = w }) (append-nil (x j).outstanding)
 
     -- and is outstanding
     pub leaves_own : (x k).outstanding ≡ [] → (leaves q (x k)).outstanding ≡ q ∷ []
@@ -45,8 +47,8 @@ module _ (n count total sent : ℕ) (ls : List (List Request)) (x : ℕ → Know
       sixteen = length-set ls k (remove (line ls k) p) ∙ lined.sixteen;
       lines = λ j. lines j (cases_eq j k);
       owner = lined.owner;
-      fine = λ j. at (λ i w. AllByRecursion (Fine n lined.owner count i) w) lined.fine (all_removed (Fine n lined.owner count k) (x k).waiting p (lined.fine k)) j (cases_eq j k);
-      rising = λ j. at (λ i w. Rising w) lined.rising (rising_removed (x k).waiting p (lined.rising k)) j (cases_eq j k);
+      fine = λ j. at (λ i w. All (Fine n lined.owner count i) w) lined.fine (all_removed (Fine n lined.owner count k) (x k).waiting p (lined.fine k)) j (cases_eq j k);
+      rising = λ j. at (λ i w. Rising w) lined.rising (all_pairs_remove (λ y z. y.number < z.number) (x k).waiting p (slice_get_within (x k).waiting p q e) (lined.rising k)) j (cases_eq j k);
       sums = omega (arith, lined.sums, sum_by-set sizes ls k (remove (line ls k) p) [] inside, sum_removed (line ls k) p q here);
       total_high = lined.total_high;
       count_high = lined.count_high;
@@ -77,11 +79,11 @@ module _ (n count total sent : ℕ) (ls : List (List Request)) (x : ℕ → Know
         ∙ ap (λ b. if_ok (cond {A = Result (Unit {0}) Refusal} b (Ok tt) (Err Full)) (set ls q.application (line ls q.application ++ (q ∷ []))) ls) (lt-ltb (length (line ls q.application)) 16 room)
 
     pub joins_other : (j : ℕ) → (j ≡ q.application → ⊥) → joins j (Some q) (x j) ≡ x j
-    joins_other j ne = cond-false (eqb q.application j) (record { waiting = (x j).waiting ++ (q ∷ []); outstanding = (x j).outstanding; latest = (x j).latest }) (x j) (ne_eqb q.application j (λ s. ne (sym s)))
+    joins_other j ne = cond-false (eqb q.application j) (record (x j) { waiting = (x j).waiting ++ (q ∷ []) }) (x j) (ne_eqb q.application j (λ s. ne (sym s)))
 
-    pub joins_own : joins q.application (Some q) (x q.application) ≡ record { waiting = (x q.application).waiting ++ (q ∷ []); outstanding = (x q.application).outstanding; latest = (x q.application).latest }
+    pub joins_own : joins q.application (Some q) (x q.application) ≡ record (x q.application) { waiting = (x q.application).waiting ++ (q ∷ []) }
     joins_own =
-        cond-true (eqb q.application q.application) (record { waiting = (x q.application).waiting ++ (q ∷ []); outstanding = (x q.application).outstanding; latest = (x q.application).latest }) (x q.application)
+        cond-true (eqb q.application q.application) (record (x q.application) { waiting = (x q.application).waiting ++ (q ∷ []) }) (x q.application)
         (eq-eqb q.application q.application refl)
 
     abbrev a : ℕ
@@ -118,9 +120,9 @@ module _ (n count total sent : ℕ) (ls : List (List Request)) (x : ℕ → Know
       sixteen = length-set ls a (line ls a ++ (q ∷ [])) ∙ lined.sixteen;
       lines = λ j. lines j (cases_eq j a);
       owner = owner;
-      fine = λ j. at (λ i w. AllByRecursion (Fine n owner (count + 1) i) w) still (All-push (Fine n owner (count + 1) a) (x a).waiting q (still a) fine_new) j (cases_eq j a);
+      fine = λ j. at (λ i w. All (Fine n owner (count + 1) i) w) still (All-push (Fine n owner (count + 1) a) (x a).waiting q (still a) fine_new) j (cases_eq j a);
       rising = λ j. at (λ i w. Rising w) lined.rising
-          (rising_push (x a).waiting q (lined.rising a) (All-weaker (Fine n lined.owner count a) (λ y. y.number < q.number) (λ y f. omega (arith, f.counted, number)) (x a).waiting (lined.fine a)))
+          (all_pairs_push (λ y z. y.number < z.number) (x a).waiting q (lined.rising a) (All-weaker (Fine n lined.owner count a) (λ y. y.number < q.number) (λ y f. omega (arith, f.counted, number)) (x a).waiting (lined.fine a)))
           j (cases_eq j a);
       sums = omega (arith, lined.sums, sum_by-set sizes ls a (line ls a ++ (q ∷ [])) [] inside, sum_by_push size_of (line ls a) q);
       total_high = sum_high;
@@ -130,7 +132,7 @@ module _ (n count total sent : ℕ) (ls : List (List Request)) (x : ℕ → Know
         inside : q.application < length ls
         inside = omega (arith, listed, lined.sixteen)
 
-        still : (j : ℕ) → AllByRecursion (Fine n owner (count + 1) j) (x j).waiting
+        still : (j : ℕ) → All (Fine n owner (count + 1) j) (x j).waiting
         still j = All-weaker (Fine n lined.owner count j) (Fine n owner (count + 1) j) (fine_still j) (x j).waiting (lined.fine j)
 
         at : (P : ℕ → List Request → Type 0) → ((j : ℕ) → P j (x j).waiting) → P q.application ((x q.application).waiting ++ (q ∷ [])) → (j : ℕ) → (j ≡ q.application) ⊎ (j ≡ q.application → ⊥)

@@ -165,18 +165,7 @@ module _ (choice : Choice) (first : ℕ → ℕ) (next : Rule) (lawful : Lawful 
       lined' = lined_sent (length r.applications) m.count m.total m.table.sent m.lists x sealed.few core.lined k p q at
 
       abbrev pub send_machine : Machine
-      send_machine =
-          record {
-            clock = m.clock;
-            head = q.first + q.size;
-            flight = Some q;
-            until = m.until;
-            table = charged_table k q.size m.table;
-            lists = taken_lists choice m.lists k m.head;
-            count = m.count;
-            total = m.total;
-            hold = m.hold;
-          }
+      send_machine = record m { head = q.first + q.size; flight = Some q; table = charged_table k q.size m.table; lists = taken_lists choice m.lists k m.head }
 
       module _ (fit : (row m.table k).served + q.size ≤ (row m.table k).budget) where
         can : fits k q.size m.table ≡ true
@@ -188,8 +177,8 @@ module _ (choice : Choice) (first : ℕ → ℕ) (next : Rule) (lawful : Lawful 
 
         pub sent_is : machine.sent choice next k q m ≡ send_machine
         sent_is =
-            ap (λ h. record { clock = m.clock; head = h; flight = Some q; until = m.until; table = charged q.size m.table; lists = taken_lists choice m.lists k m.head; count = m.count; total = m.total; hold = m.hold }) head_there
-            ∙ ap (λ u. record { clock = m.clock; head = q.first + q.size; flight = Some q; until = m.until; table = u; lists = taken_lists choice m.lists k m.head; count = m.count; total = m.total; hold = m.hold })
+            ap (λ h. record m { head = h; flight = Some q; table = charged q.size m.table; lists = taken_lists choice m.lists k m.head }) head_there
+            ∙ ap (λ u. record m { head = q.first + q.size; flight = Some q; table = u; lists = taken_lists choice m.lists k m.head })
             (charged_is m.table k q.size e can)
 
         pub send_inv : (last : Option ℕ) → (x k).outstanding ≡ [] → m.until ≡ None → Inv r send_machine (λ j. leaves q (x j)) last (q.first + q.size)

@@ -116,21 +116,21 @@ module _ (choice : Choice) (first : ℕ → ℕ) (next : Rule) (r : LineUp) wher
     }
       where
         by_hold : (k : ℕ) → m.table.serving ≡ Some k → m.flight ≡ None → length (line m.lists k) ≡ 0 → Disk r.hold m.clock x last m.table.serving m.flight m.until → is_some m.until ≡ true
-        by_hold k s f e (vacant a b c) = let z : ◌≡◌ {A = ℕ} 0 1 = cc in absurd (omega arith)
-        by_hold k s f e (working j q a b c d o) = let z : ◌≡◌ {A = ℕ} 0 1 = cc in absurd (omega arith)
+        by_hold k s f e (vacant a b c) = absurd cc
+        by_hold k s f e (working j q a b c d o) = absurd cc
         by_hold k s f e (ready j a b c w) =
             let same : j ≡ k = cc in
             absurd (omega (arith, w.some, ap (λ i. length (x i).waiting) same, ap length (inv.core.lined.lines k), e))
         by_hold k s f e (held j since a b c w o l lt h) = ap is_some c
 
         by_flight : (q : Request) → m.flight ≡ Some q → Disk r.hold m.clock x last m.table.serving m.flight m.until → m.table.serving ≡ Some q.application
-        by_flight q f (vacant a b c) = let z : ◌≡◌ {A = ℕ} 0 1 = cc in absurd (omega arith)
+        by_flight q f (vacant a b c) = absurd cc
         by_flight q f (working j p a b c d o) = let same : p ≡ q = cc in a ∙ ap Some (sym d ∙ ap (λ y. y.application) same)
-        by_flight q f (ready j a b c w) = let z : ◌≡◌ {A = ℕ} 0 1 = cc in absurd (omega arith)
-        by_flight q f (held j since a b c w o l lt h) = let z : ◌≡◌ {A = ℕ} 0 1 = cc in absurd (omega arith)
+        by_flight q f (ready j a b c w) = absurd cc
+        by_flight q f (held j since a b c w o l lt h) = absurd cc
 
         by_until : (u : ℕ) → m.until ≡ Some u → Disk r.hold m.clock x last m.table.serving m.flight m.until → is_some m.table.serving ≡ true
-        by_until u e (vacant a b c) = let z : ◌≡◌ {A = ℕ} 0 1 = cc in absurd (omega arith)
+        by_until u e (vacant a b c) = absurd cc
         by_until u e (working j p a b c d o) = ap is_some a
         by_until u e (ready j a b c w) = ap is_some a
         by_until u e (held j since a b c w o l lt h) = ap is_some a

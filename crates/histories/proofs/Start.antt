@@ -1,7 +1,7 @@
 -- Where all begins: the invariant holds, and the table is that of the roster, with a budget allotted to each.
 use Rattle.std.proofs.Common.{◌≡◌, ℕ, ◌+◌, ◌<◌, ◌≤◌, true, false, ltb, leb, ◌⊎◌, List, [], ◌∷◌, ◌++◌, map, length, get_or, replicate, None, sym, refl, ap, ◌∙◌, subst, inl, inr, arith}
-use Rattle.std.specs.List.{AllByRecursion}
-use Rattle.std.proofs.ByRecursion.{All-map, All-from_get_or, All-get_or, All-weaker}
+use Rattle.std.specs.List.{All}
+use Rattle.std.proofs.lemmas.List.Elements.{All-nil, All-head, All-tail, All-map, All-from_get_or, All-weaker}
 use Rattle.std.proofs.lemmas.List.{length-append, length_push, length-map, get_or_at, set_at, get_or-replicate, get_or_past, append_assoc}
 use Rattle.std.proofs.lemmas.Bool.{cases_lt, and_from, lt-ltb, le-leb, cond-true}
 use Rattle.rosters.specs.Applications.{application}
@@ -13,7 +13,8 @@ use Rattle.stamps.specs.Rows.{with_budget}
 use Rattle.stamps.specs.Tables.{Table, row, Sound}
 use Rattle.stamps.specs.Steps.{initial, changed, can_wake, can_allot, allotted}
 use Rattle.stamps.proofs.Soundness.{allotted_sound}
-use Rattle.stamps.proofs.Beginning.{entitled, initial_sound}
+use Rattle.rosters.proofs.Lineups.{entitled}
+use Rattle.stamps.proofs.Beginning.{initial_sound}
 use Rattle.pools.specs.Fits.{Fits}
 use Rattle.pools.specs.Lines.{Choice, line, empty_lists}
 use Rattle.machine.specs.Machine.{Rule, beginning}
@@ -21,13 +22,17 @@ use Rattle.share_law.specs.Courses.{Course, allot, after}
 use Rattle.histories.specs.History as history
 use Rattle.histories.specs.History.{unknown}
 use Rattle.histories.specs.Promises.{Lawful, Sealed}
-use Rattle.histories.proofs.Invariant.{Stands, Funded, vacant, Inv}
+use Rattle.histories.proofs.Invariant.{Fine, Stands, Funded, vacant, Inv}
+
+-- the same table with other rows
+abbrev pub with_stamps : List Stamp → Table → Table
+with_stamps xs t = record t { stamps = xs }
 
 abbrev fresh : List Stamp → Table
 fresh xs = record { virtual = 0; sent = 0; serving = None; stamps = xs }
 
 module _ (first : ℕ → ℕ) where
-  abbrev given : Stamp → Stamp
+  abbrev pub given : Stamp → Stamp
   given s = with_budget (first s.limit) s
 
   -- each row from place i on is given its budget
@@ -41,26 +46,30 @@ module _ (first : ℕ → ℕ) where
     pub limit_high : s.limit ≤ 65536
     pub fits : Fits s.limit (first s.limit)
 
-  one_allotted : (ys ss : List Stamp) (s : Stamp) → Blank s → allotted (length ys) (first s.limit) (fresh (ys ++ (s ∷ ss))) ≡ fresh ((ys ++ (given s ∷ [])) ++ ss)
-  one_allotted ys ss s b =
-      let here : row (fresh (ys ++ (s ∷ ss))) (length ys) ≡ s = get_or_at ys s ss no_stamp (length ys) refl in
-      let inside : length ys < length (ys ++ (s ∷ ss)) = omega (arith, length-append ys (s ∷ ss)) in
-      let wakes : can_wake (length ys) (fresh (ys ++ (s ∷ ss))) ≡ true =
-      and_from (ltb (length ys) (length (ys ++ (s ∷ ss)))) (is_idle (row (fresh (ys ++ (s ∷ ss))) (length ys))) (lt-ltb (length ys) (length (ys ++ (s ∷ ss))) inside)
-      (ap is_idle here ∙ ap (λ st. by_status st true false false) b.idle) in
-      let may : may_have (first s.limit) (row (fresh (ys ++ (s ∷ ss))) (length ys)) ≡ true =
-      ap (may_have (first s.limit)) here
-      ∙ and_from (ltb 0 (first s.limit)) (leb (first s.limit) s.limit) (lt-ltb 0 (first s.limit) (omega (arith, b.fits.0))) (le-leb (first s.limit) s.limit b.fits.1) in
-      cond-true (can_allot (length ys) (first s.limit) (fresh (ys ++ (s ∷ ss)))) (changed (length ys) (with_budget (first s.limit) (row (fresh (ys ++ (s ∷ ss))) (length ys))) None (fresh (ys ++ (s ∷ ss)))) (fresh (ys ++ (s ∷ ss)))
-      (and_from (can_wake (length ys) (fresh (ys ++ (s ∷ ss)))) (may_have (first s.limit) (row (fresh (ys ++ (s ∷ ss))) (length ys))) wakes may)
-      ∙ ap (λ z. changed (length ys) (with_budget (first s.limit) z) None (fresh (ys ++ (s ∷ ss)))) here
-      ∙ ap fresh (set_at ys s ss (given s) (length ys) refl ∙ sym (append_assoc ys (given s ∷ []) ss))
+  -- the row s of an idle application, at place i, is given its budget
+  module _ (t : Table) (ys ss : List Stamp) (s : Stamp) (i : ℕ) (at : length ys ≡ i) (idle : is_idle s ≡ true) (fits : Fits s.limit (first s.limit)) where
+    abbrev old : Table
+    old = with_stamps (ys ++ (s ∷ ss)) t
 
-  allots_after : (ys ss : List Stamp) (i : ℕ) → length ys ≡ i → AllByRecursion Blank ss → after (allots i ss) (fresh (ys ++ ss)) ≡ fresh (ys ++ map given ss)
+    here : row (with_stamps (ys ++ (s ∷ ss)) t) i ≡ s
+    here = get_or_at ys s ss no_stamp i at
+
+    can : can_allot i (first s.limit) (with_stamps (ys ++ (s ∷ ss)) t) ≡ true
+    can = and_from (can_wake i old) (may_have (first s.limit) (row old i))
+        (and_from (ltb i (length old.stamps)) (is_idle (row old i)) (lt-ltb i (length old.stamps) (omega (arith, at, length-append ys (s ∷ ss)))) (ap is_idle here ∙ idle))
+        (ap (may_have (first s.limit)) here ∙ and_from (ltb 0 (first s.limit)) (leb (first s.limit) s.limit) (lt-ltb 0 (first s.limit) (omega (arith, fits.0))) (le-leb (first s.limit) s.limit fits.1))
+
+    pub one_given : allotted i (first s.limit) (with_stamps (ys ++ (s ∷ ss)) t) ≡ with_stamps ((ys ++ (given s ∷ [])) ++ ss) t
+    one_given = cond-true (can_allot i (first s.limit) old) (changed i (with_budget (first s.limit) (row old i)) t.serving old) old can
+        ∙ ap (λ z. changed i (with_budget (first s.limit) z) t.serving old) here
+        ∙ ap (λ xs. with_stamps xs t) (set_at ys s ss (given s) i at ∙ sym (append_assoc ys (given s ∷ []) ss))
+
+  allots_after : (ys ss : List Stamp) (i : ℕ) → length ys ≡ i → All Blank ss → after (allots i ss) (fresh (ys ++ ss)) ≡ fresh (ys ++ map given ss)
   allots_after ys [] i e all = refl
   allots_after ys (s ∷ ss) i e all =
-      ap (λ u. after (allots (i + 1) ss) u) (ap (λ j. allotted j (first s.limit) (fresh (ys ++ (s ∷ ss)))) (sym e) ∙ one_allotted ys ss s all.0)
-      ∙ allots_after (ys ++ (given s ∷ [])) ss (i + 1) (length_push ys (given s) ∙ ap (λ j. j + 1) e) all.1
+      let b = All-head Blank s ss all in
+      ap (λ u. after (allots (i + 1) ss) u) (one_given (fresh []) ys ss s i e (ap (λ st. by_status st true false false) b.idle) b.fits)
+      ∙ allots_after (ys ++ (given s ∷ [])) ss (i + 1) (length_push ys (given s) ∙ ap (λ j. j + 1) e) (All-tail Blank s ss all)
       ∙ ap fresh (append_assoc ys (given s ∷ []) (map given ss))
 
   sound_allots : (ss : List Stamp) (i : ℕ) (t : Table) → Sound t → Sound (after (allots i ss) t)
@@ -68,7 +77,7 @@ module _ (first : ℕ → ℕ) where
   sound_allots (s ∷ ss) i t h = sound_allots ss (i + 1) (allotted i (first s.limit) t) (allotted_sound i (first s.limit) t h)
 
 module _ (choice : Choice) (first : ℕ → ℕ) (next : Rule) (lawful : Lawful choice first next) (r : LineUp) (sealed : Sealed r) where
-  blank : AllByRecursion (Blank first) (initial r).stamps
+  blank : All (Blank first) (initial r).stamps
   blank = All-map (Blank first) (new_stamp (total_weight r)) r.applications
       (All-from_get_or (λ a. Blank first (new_stamp (total_weight r) a)) r.applications (application 0 0)
       (λ k h. let e = entitled (get_or r.applications k (application 0 0)) (sealed.each k (application 0 0) h) in
@@ -89,7 +98,7 @@ module _ (choice : Choice) (first : ℕ → ℕ) (next : Rule) (lawful : Lawful 
     pub idle : s.status ≡ Idle
     pub funded : Funded s
 
-  firsts : AllByRecursion First (beginning first r).table.stamps
+  firsts : All First (beginning first r).table.stamps
   firsts = All-map First (given first) (initial r).stamps
       (All-weaker (Blank first) (λ s. First (given first s)) (λ s b. record { idle = b.idle; funded = record { limit_low = b.limit_low; limit_high = b.limit_high; budget = b.fits } }) (initial r).stamps blank)
 
@@ -97,7 +106,7 @@ module _ (choice : Choice) (first : ℕ → ℕ) (next : Rule) (lawful : Lawful 
   size = length-map (initial r).stamps (given first) ∙ length-map r.applications (new_stamp (total_weight r))
 
   each : (k : ℕ) → k < length r.applications → First (row (beginning first r).table k)
-  each k h = All-get_or First (beginning first r).table.stamps k no_stamp (omega (arith, h, size)) firsts
+  each k h = firsts k no_stamp (omega (arith, h, size))
 
   -- nothing waits
   none_waits : (k : ℕ) → [] ≡ line empty_lists k
@@ -114,8 +123,8 @@ module _ (choice : Choice) (first : ℕ → ℕ) (next : Rule) (lawful : Lawful 
         sixteen = refl;
         lines = none_waits;
         owner = λ _. 0;
-        fine = λ k. tt;
-        rising = λ k. tt;
+        fine = λ k. All-nil (Fine (length r.applications) (λ _. 0) 0 k);
+        rising = λ k i j d lt within. absurd (omega arith);
         sums = omega arith;
         total_high = omega arith;
         count_high = omega arith;

@@ -1,5 +1,5 @@
 -- What the operations of the stamp table leave where they are in place, and whom a pick finds.
-use Rattle.std.proofs.Common.{◌≡◌, ℕ, ◌+◌, ◌^◌, ◌<◌, ◌≤◌, Bool, true, ltb, leb, ◌⊎◌, length, set, Some, None, Option, sym, refl, ap, ◌∙◌, subst, inl, inr, arith, MatchOption}
+use Rattle.std.proofs.Common.{◌≡◌, ℕ, ◌+◌, ◌^◌, ◌<◌, ◌≤◌, Bool, true, ltb, leb, ◌⊎◌, length, set, Some, None, Option, sym, refl, ap, ◌∙◌, subst, inl, inr, MatchOption}
 use native.Mathlib.Nat.{le-max_right}
 use Rattle.std.proofs.lemmas.Bool.{and_parts, and_from, le-leb, lt-ltb, cond-true, true≢false, both_ways, cases_lt}
 use Rattle.std.proofs.lemmas.List.{get_or_past}
@@ -55,7 +55,7 @@ pick_finds t k e = go t.serving refl e
     go None free e =
         let f = means t (eligible (pick_time t)) (λ s. s.finish) (Some k) e in
         record { free = free; inside = f.within; queued = (and_parts (is_queued (row t k)) (leb (row t k).start (pick_time t)) (f.fits no_stamp)).0 }
-    go (Some j) busy e = let z : ◌≡◌ {A = ℕ} 0 1 = cc in absurd (omega arith)
+    go (Some j) busy e = absurd cc
 
 -- it finds nobody where nobody is queued, and then alone
 pub pick_misses : (t : Table) → t.serving ≡ None → pick_answer t ≡ None → (j : ℕ) → is_queued (row t j) ≡ true → ⊥

@@ -1,6 +1,6 @@
 -- Whole histories: the invariant after each, and its entries as one course of table operations.
-use Rattle.std.proofs.Common.{◌≡◌, ℕ, ◌+◌, true, List, [], ◌∷◌, ◌++◌, fold, Option, sym, refl, ap, subst}
-use Rattle.std.proofs.lemmas.List.Sums.{sum_by-cons}
+use Rattle.std.proofs.Common.{◌≡◌, ℕ, ◌+◌, true, [], ◌∷◌, ◌++◌, fold, Option, sym, refl, ap, subst}
+use Rattle.std.proofs.lemmas.List.Sums.{sum_by-cons, fold-append}
 use Rattle.rosters.specs.Rosters.{LineUp}
 use Rattle.pools.specs.Lines.{Choice}
 use Rattle.machine.specs.Machine.{Machine, Rule}
@@ -10,11 +10,6 @@ use Rattle.histories.specs.Promises.{Lawful, Sealed, after_entry, Run, after}
 use Rattle.histories.proofs.Courses.{Led, led_none, led_then, led_same}
 use Rattle.histories.proofs.Invariant.{Inv}
 use Rattle.histories.proofs.Entries.{entry_told}
-
--- folds over two histories in a row
-pub folded_append : {X Y : Type 0} (f : Y → X → Y) (a : Y) (xs ys : List X) → fold f a (xs ++ ys) ≡ fold f (fold f a xs) ys
-folded_append f a [] ys = refl
-folded_append f a (x ∷ xs) ys = folded_append f (f a x) xs ys
 
 -- never idle, entry by entry, from what is known
 abbrev pub Never : ℕ → ℕ → Known → History → Type 0
@@ -28,7 +23,7 @@ by_entries H k y [] h = tt
 by_entries H k y (e ∷ es) h = (h [] es e refl, by_entries H k (learned k y e) es (λ earlier later d s. h (e ∷ earlier) later d (ap (λ z. e ∷ z) s)))
 
 pub never : (H k : ℕ) (h es : History) → NeverIdle H k h es → Never H k (known k h) es
-never H k h es none = by_entries H k (known k h) es (λ earlier later e s a i. none earlier later e s a (subst (history.Idle H (time_of e.call)) (sym (folded_append (learned k) unknown h earlier)) i))
+never H k h es none = by_entries H k (known k h) es (λ earlier later e s a i. none earlier later e s a (subst (history.Idle H (time_of e.call)) (sym (fold-append (learned k) unknown h earlier)) i))
 
 module _ (choice : Choice) (first : ℕ → ℕ) (next : Rule) (lawful : Lawful choice first next) (r : LineUp) (sealed : Sealed r) where
   -- a run in two parts

@@ -90,23 +90,21 @@ otherwise_numbered n r = not (numbered n r)
 -- A request of application k waits once it is accepted,
 abbrev pub joins : ℕ → Option Request → Known → Known
 joins k None x = x
-joins k (Some r) x = cond (r.application == k) (record { waiting = x.waiting ++ (r ∷ []); outstanding = x.outstanding; latest = x.latest }) x
+joins k (Some r) x = cond (r.application == k) (record x { waiting = x.waiting ++ (r ∷ []) }) x
 
 -- until a token bears its number; then it is outstanding,
 abbrev pub leaves : Request → Known → Known
 leaves token x =
-    record {
+    record x {
       waiting = filter (otherwise_numbered token.number) x.waiting;
       outstanding = x.outstanding ++ filter (numbered token.number) x.waiting;
-      latest = x.latest;
     }
 
 -- until a completion brings that number.
 abbrev pub ends : ℕ → ℕ → Option Request → Known → Known
 ends k time None x = x
 ends k time (Some token) x =
-    record {
-      waiting = x.waiting;
+    record x {
       outstanding = filter (otherwise_numbered token.number) x.outstanding;
       latest = cond (token.application == k) (Some (record { time = time; kind = token.kind })) x.latest;
     }

@@ -8,7 +8,6 @@ use std::{env, io};
 
 mod many;
 mod report;
-mod words;
 
 /// No valid file is longer than 30,880 bytes.
 const MOST_BYTES: u64 = 65536;

@@ -1,87 +1,54 @@
 //! Many files on one input: what a comparison with another program asks for.
 
-ghost use Rattle.std.specs.Prelude.{◌≡◌, length, IfSome};
+ghost use Rattle.std.specs.Prelude.{◌<◌, length, IfSome};
 
 use crate::report::{show, show_fault};
-use fields::get::{cut, get_u32};
+use records::record::Record;
 use std::alloc::{AllocError, Global};
 use std::io;
 use std::io::Write;
-use trace::tables::{ApplicationRecord, EventRecord, RequestRecord, Settings};
+use trace::parts::Body;
+use trace::tables::{ApplicationRecord, EventRecord, RequestRecord, Settings, Tables};
 use trace::trace::Trace;
 use trace::write_trace;
 
-/// What is left of the input.
-#[derive(Drop)]
-struct Input<'a> {
-    bytes: &'a [u8],
-    at: usize,
-}
-
-impl<'a> Input<'a> {
-    /// The next bytes, if so many are left.
-    fn next(&mut self, size: usize) -> Option<&'a [u8]>
-        ensures { IfSome result (λ p. length p.now ≡ size) }
-    {
-        let bytes = self.bytes;
-        let at = self.at;
-        if at > bytes.len() || size > bytes.len() - at {
-            return None;
-        }
-        self.at = at + size;
-        Some(cut(bytes, at, size))
-    }
-}
-
-#[derive(Drop)]
-struct Tables {
-    settings: Settings,
-    applications: Vec<ApplicationRecord>,
-    requests: Vec<RequestRecord>,
-    events: Vec<EventRecord>,
-}
-
 /// Files, each behind its length in 4 bytes. One that is accepted is written back from its tables.
 pub fn report_all<W: Write>(heap: Global, out: &mut W, bytes: &[u8]) -> io::Result<()> {
-    let mut input = Input { bytes, at: 0 };
-    for _ in 0..bytes.len() {
-        let Some(size) = input.next(4) else {
-            return Ok(());
-        };
-        let Some(file) = input.next(get_u32(size, 0) as usize) else {
-            return Ok(());
-        };
+    let mut rest = bytes;
+    while let Some((file, behind)) = next_file(rest) {
         match Trace::read(file) {
             Ok(trace) => {
                 show(out, &trace)?;
                 write_back(
                     out,
-                    &load(heap, &trace)?,
+                    &Loaded::from(heap, &trace)?,
                     file,
                     vec![in heap; 0u8; file.len()]?,
                 )?;
             }
             Err(fault) => show_fault(out, fault)?,
         }
+        rest = behind;
     }
     Ok(())
+}
+
+/// The next file, and what is behind it, if that much is left.
+fn next_file(rest: &[u8]) -> Option<(&[u8], &[u8])>
+    ensures { IfSome result (λ p. length p.1.now < length rest.now) }
+{
+    let (size, rest) = rest.split_first_chunk()?;
+    rest.split_at_checked(u32::from_le_bytes(*size) as usize)
 }
 
 /// Writes a file from its tables, and shows whether that gives the same bytes.
 fn write_back<W: Write>(
     out: &mut W,
-    tables: &Tables,
+    tables: &Loaded,
     file: &[u8],
     mut buffer: Vec<u8>,
 ) -> io::Result<()> {
-    let answer = write_trace(
-        tables.settings,
-        tables.applications.as_slice(),
-        tables.requests.as_slice(),
-        tables.events.as_slice(),
-        buffer.as_mut_slice(),
-    );
-    match answer {
+    match write_trace(&tables.borrowed(), buffer.as_mut_slice()) {
         Ok(size) => {
             let same = buffer.as_slice() == file;
             writeln!(out, "written {size} {same}")
@@ -90,29 +57,40 @@ fn write_back<W: Write>(
     }
 }
 
-fn load(heap: Global, trace: &Trace) -> Result<Tables, AllocError> {
-    let mut applications = Vec::new(heap);
-    for i in 0..trace.application_count() {
-        if let Some(placed) = trace.application(i) {
-            applications.push(placed.value)?;
+/// The tables of a file, each record read from its bytes.
+#[derive(Drop)]
+struct Loaded {
+    settings: Settings,
+    applications: Vec<ApplicationRecord>,
+    requests: Vec<RequestRecord>,
+    events: Vec<EventRecord>,
+}
+
+impl Loaded {
+    fn from(heap: Global, trace: &Trace) -> Result<Loaded, AllocError> {
+        Ok(Loaded {
+            settings: trace.settings(),
+            applications: load(heap, trace.applications())?,
+            requests: load(heap, trace.requests())?,
+            events: load(heap, trace.events())?,
+        })
+    }
+
+    fn borrowed(&self) -> Tables<'_> {
+        Tables {
+            settings: self.settings,
+            applications: self.applications.as_slice(),
+            requests: self.requests.as_slice(),
+            events: self.events.as_slice(),
         }
     }
-    let mut requests = Vec::new(heap);
-    for i in 0..trace.request_count() {
-        if let Some(placed) = trace.request(i) {
-            requests.push(placed.value)?;
-        }
+}
+
+fn load<const N: usize, R: Record<N>>(heap: Global, body: Body) -> Result<Vec<R>, AllocError> {
+    // A loop and not `map` and `collect`: a function passed to `map` whose result is of a type parameter gets no proof.
+    let mut table = Vec::new(heap);
+    for bytes in body.pieces() {
+        table.push(R::of(bytes))?;
     }
-    let mut events = Vec::new(heap);
-    for i in 0..trace.event_count() {
-        if let Some(placed) = trace.event(i) {
-            events.push(placed.value)?;
-        }
-    }
-    Ok(Tables {
-        settings: trace.settings(),
-        applications,
-        requests,
-        events,
-    })
+    Ok(table)
 }

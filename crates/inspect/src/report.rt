@@ -1,11 +1,12 @@
 //! The report on one file.
 
-use crate::words::{event_name, kind_name, pool_name, rule_name, sentence};
+use records::record::Record;
+use std::fmt::Display;
 use std::io;
 use std::io::Write;
 use trace::fault::Fault;
-use trace::parts::Placed;
-use trace::tables::{Event, EventRecord, RequestRecord};
+use trace::parts::{Body, Placed};
+use trace::tables::{ApplicationRecord, EventRecord, RequestRecord, Settings};
 use trace::trace::Trace;
 
 /// How many lines of a table are shown.
@@ -19,18 +20,14 @@ pub fn report<W: Write>(out: &mut W, bytes: &[u8]) -> io::Result<()> {
 }
 
 pub fn show_fault<W: Write>(out: &mut W, fault: Fault) -> io::Result<()> {
-    let layer = fault.layer.number();
-    let number = fault.number.number();
+    let layer = u8::from(fault.layer);
+    let number = u8::from(fault.number);
     let place = fault.place;
-    let words = sentence(fault);
-    writeln!(out, "fault {layer} {number} {place}\n{words}")
+    writeln!(out, "fault {layer} {number} {place}\n{fault}")
 }
 
 pub fn show<W: Write>(out: &mut W, trace: &Trace) -> io::Result<()> {
-    let settings = trace.settings();
-    let hold = settings.hold;
-    let rule = rule_name(settings.rule);
-    let pool = pool_name(settings.pool);
+    let Settings { hold, rule, pool } = trace.settings();
     writeln!(out, "hold {hold}, rule {rule}, pool {pool}")?;
     let applications = trace.application_count();
     let requests = trace.request_count();
@@ -39,87 +36,41 @@ pub fn show<W: Write>(out: &mut W, trace: &Trace) -> io::Result<()> {
         out,
         "records: applications {applications}, requests {requests}, events {events}"
     )?;
-    show_roster(out, trace)?;
-    show_requests(out, trace)?;
-    show_events(out, trace)
+    writeln!(out, "application 0: weight 1, limit 256")?;
+    // By the index, since `application` answers the record with its place in the file.
+    for index in 0..applications {
+        show_record(out, "application", index + 1, trace.application(index))?;
+    }
+    show_first::<16, RequestRecord, W>(out, "request", trace.requests())?;
+    show_first::<16, EventRecord, W>(out, "event", trace.events())
 }
 
-/// The applications with their numbers; application 0 is always there.
-fn show_roster<W: Write>(out: &mut W, trace: &Trace) -> io::Result<()> {
-    writeln!(out, "application 0: weight 1, limit 256")?;
-    for index in 0..trace.application_count() {
-        if let Some(Placed { offset, value }) = trace.application(index) {
-            let number = index.wrapping_add(1);
-            let weight = value.weight;
-            let limit = value.limit;
-            writeln!(
-                out,
-                "application {number} at {offset}: weight {weight}, limit {limit}"
-            )?;
-        }
+/// The first records of a body, and how many more it has.
+fn show_first<const N: usize, R: Record<N> + Display, W: Write>(
+    out: &mut W,
+    name: &str,
+    body: Body,
+) -> io::Result<()> {
+    // By the index, since `record` answers the record with its place in the file.
+    for index in 0..SHOWN {
+        show_record(out, name, index, body.record::<N, R>(index))?;
+    }
+    let more = body.count::<N, R>().saturating_sub(SHOWN);
+    if more > 0 {
+        writeln!(out, "and {more} {name}s more")?;
     }
     Ok(())
 }
 
-fn show_requests<W: Write>(out: &mut W, trace: &Trace) -> io::Result<()> {
-    for index in 0..SHOWN {
-        if let Some(Placed { offset, value }) = trace.request(index) {
-            show_request(out, index, offset, value)?;
-        }
-    }
-    show_rest(out, trace.request_count(), "requests")
-}
-
-fn show_request<W: Write>(
+/// A record, if it is there, with its number and its place in the file.
+fn show_record<R: Display + Drop, W: Write>(
     out: &mut W,
-    index: usize,
-    offset: usize,
-    request: RequestRecord,
+    name: &str,
+    number: usize,
+    found: Option<Placed<R>>,
 ) -> io::Result<()> {
-    let RequestRecord {
-        first,
-        size,
-        application,
-        kind,
-    } = request;
-    let kind = kind_name(kind);
-    writeln!(
-        out,
-        "request {index} at {offset}: application {application}, first {first}, size {size}, {kind}"
-    )
-}
-
-fn show_events<W: Write>(out: &mut W, trace: &Trace) -> io::Result<()> {
-    for index in 0..SHOWN {
-        if let Some(Placed { offset, value }) = trace.event(index) {
-            show_event(out, index, offset, value)?;
-        }
+    match found {
+        Some(Placed { offset, value }) => writeln!(out, "{name} {number} at {offset}: {value}"),
+        None => Ok(()),
     }
-    show_rest(out, trace.event_count(), "events")
-}
-
-fn show_event<W: Write>(
-    out: &mut W,
-    index: usize,
-    offset: usize,
-    record: EventRecord,
-) -> io::Result<()> {
-    let EventRecord { time, event } = record;
-    let name = event_name(event);
-    if let Event::Arrival(request) = event {
-        return writeln!(
-            out,
-            "event {index} at {offset}: time {time}, {name} of request {request}"
-        );
-    }
-    writeln!(out, "event {index} at {offset}: time {time}, {name}")
-}
-
-/// Says how many more lines a table has.
-fn show_rest<W: Write>(out: &mut W, count: usize, name: &str) -> io::Result<()> {
-    if count <= SHOWN {
-        return Ok(());
-    }
-    let more = count - SHOWN;
-    writeln!(out, "and {more} {name} more")
 }

@@ -3,12 +3,13 @@
 
 #![tactic(auto)]
 
-ghost use Rattle.std.specs.Prelude.{◌≡◌, ◌<◌, Bool, length, IfSome, MatchOption};
+ghost use Rattle.std.specs.Prelude.{◌≡◌, Bool, MatchOption};
 ghost use Rattle.std.specs.Cmp.{IsStrictWeakOrder};
-ghost use Rattle.least.specs.Choice.{FirstLeast, NoneEligible, place, Turn};
+ghost use Rattle.least.specs.Choice.{FirstLeast, NoneEligible, place};
 
 /// A question put to a row of elements: which of them are eligible, and which of two comes before
 /// the other by its key. The question carries what both depend on, as the head's position.
+// A comparison and no key, a trait and no closures: a question may order by more than one number, and only an impl can owe the law that it is an order.
 pub trait Query {
     type Item;
 
@@ -26,37 +27,17 @@ pub trait Query {
     ghost ranks: { (q : Self) → IsStrictWeakOrder (before q) };
 }
 
-/// Where the first least eligible element stands; none exactly when no element is eligible.
+/// Where the first least eligible element stands; none exactly when no element is eligible. The element
+/// held gives way only to one that comes strictly before it, and so of equals the first is held.
 pub fn first_least<Q: Query>(query: &Q, items: &[Q::Item]) -> Option<usize>
     ensures place { result ≡ place (Q.Query.eligible query.now) (Q.Query.before query.now) items.now }
     ensures meaning { MatchOption result (NoneEligible (Q.Query.eligible query.now) items.now) (FirstLeast (Q.Query.eligible query.now) (Q.Query.before query.now) items.now) }
 {
-    let mut best: Option<usize> = None;
-    for i in (0..items.len()).rev() {
-        best = better(query, items, i, best);
-    }
-    best
-}
-
-/// The choice among the elements from `at` on, where `best` is the choice among those behind it.
-/// The search goes from the last to the first, so an element gives way only to one strictly before it.
-fn better<Q: Query>(query: &Q, items: &[Q::Item], at: usize, best: Option<usize>) -> Option<usize>
-    requires within { at < length items.now }
-    requires inside { IfSome best (λ b. b < length items.now) }
-    ensures { Turn (Q.Query.eligible query.now) (Q.Query.before query.now) items.now at best result }
-{
-    let here = &items[at];
-    if !query.is_eligible(here) {
-        return best;
-    }
-    match best {
-        None => Some(at),
-        Some(b) => {
-            if query.is_before(&items[b], here) {
-                Some(b)
-            } else {
-                Some(at)
-            }
+    let mut least: Option<(usize, &Q::Item)> = None;
+    for (place, item) in items.iter().enumerate() {
+        if query.is_eligible(item) && least.is_none_or(|(_, held)| query.is_before(item, held)) {
+            least = Some((place, item));
         }
     }
+    least.map(|(place, _)| place)
 }

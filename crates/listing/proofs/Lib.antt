@@ -1,4 +1,4 @@
-pub mod Decimals
+pub mod Digits
 pub mod Rests
 pub mod Parts
 pub mod Widths

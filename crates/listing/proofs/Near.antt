@@ -1,11 +1,11 @@
 -- The numbers of a send are small: a request that is sent was waiting. Assumes nothing.
-use Rattle.std.proofs.Common.{◌≡◌, ℕ, ◌+◌, Bool, true, false, cond, List, ◌∷◌, Some, None, Option, sym, refl, ap, ◌∙◌, subst, arith}
+use Rattle.std.proofs.Common.{◌≡◌, ℕ, ◌+◌, Bool, true, false, cond, List, ◌∷◌, Some, None, Ok, Option, is_some, sym, refl, ap, ◌∙◌, subst, arith}
 use Rattle.std.specs.List.{slice_get}
 use Rattle.histories.specs.History.{Call, arrival, dispatch, completion, tick, entry}
 use Rattle.histories.specs.Promises.{Lawful, Sealed, Run, after, answer, after_call}
 use Rattle.histories.proofs.Reachable.{in_bounds, own_entry}
 use Rattle.machine.proofs.Flight.{begun_lists, in_time}
-use Rattle.machine.specs.Calls.{dispatch_refusal, dispatch_reply, completion_refusal, arrival_refusal, tick_refusal, is_some}
+use Rattle.machine.specs.Calls.{dispatch_refusal, dispatch_reply, completion_refusal, arrival_refusal, tick_refusal}
 use Rattle.machine.specs.Machine.{Machine, Rule, Reply, sends, holds, nothing, beginning, begun, next_of, pick_reply, picking_reply, sent_reply, served_reply, reaches, reply, retired, subject}
 use Rattle.machine.specs.declared.refusal.Refusal.{Refusal}
 use Rattle.machine.specs.declared.refusal.Refusal.TheVariants.{Busy}
@@ -21,11 +21,17 @@ use Rattle.listing.specs.Near.{Near, StaysNear, Small}
 use Rattle.driver.specs.Runs.{acted, completion_after, completion_outcome, or_refused, outcome, replied, time_of}
 use Rattle.driver.specs.declared.command.Command.{Command}
 use Rattle.driver.specs.declared.command.Command.TheVariants.{Arrival, Dispatch, Completion, Tick}
-use Rattle.driver.specs.declared.command.Outcome.TheVariants.{Accepted, Done, Ticked}
+use Rattle.driver.specs.declared.command.Answer.{Answer}
+use Rattle.driver.specs.declared.command.Answer.TheVariants.{Accepted, Done, Ticked}
 
 -- a request of these lines
 abbrev Waits : List (List Request) → Request → Type 0
 Waits ls q = (k : ℕ) × ((i : ℕ) × (slice_get (line ls k) i ≡ Some q))
+
+-- a refusal sends nothing
+or_small : (time : ℕ) (o : Option Refusal) (a : Answer) → Small time (Ok a) → Small time (or_refused o a)
+or_small time None a small = small
+or_small time (Some r) a small = tt
 
 module _ (choice : Choice) (next : Rule) where
   -- what a dispatch sends was waiting
@@ -63,11 +69,7 @@ module _ (choice : Choice) (next : Rule) where
 
   -- so it is no larger than those that wait, and its time is one that is accepted
   pub small : (c : Command) (m : Machine) → Near m → Small (time_of c) (outcome choice next c m)
-  small (Arrival time a first size kind) m near = go (arrival_refusal time a first size m)
-    where
-      go : (o : Option Refusal) → Small time (or_refused o (Accepted (m.count + 1)))
-      go None = tt
-      go (Some r) = tt
+  small (Arrival time a first size kind) m near = or_small time (arrival_refusal time a first size m) (Accepted (m.count + 1)) tt
   small (Dispatch time) m near = go (dispatch_refusal time m) (dispatch_reply choice next time m) refl refl
     where
       go : (o : Option Refusal) (r : Reply) → dispatch_refusal time m ≡ o → dispatch_reply choice next time m ≡ r → Small time (or_refused o (replied r))
@@ -80,18 +82,10 @@ module _ (choice : Choice) (next : Rule) where
           (in_time choice next time m (cond (is_some m.flight) (Some Busy) None) e, at.0, at.1)
   small (Completion time) m near = go m.flight
     where
-      by : (o : Option Refusal) (n : ℕ) → Small time (or_refused o (Done n))
-      by None n = tt
-      by (Some r) n = tt
-
       go : (o : Option Request) → Small time (completion_outcome o time m)
       go None = tt
-      go (Some r) = by (completion_refusal time r m) r.number
-  small (Tick time) m near = go (tick_refusal time m)
-    where
-      go : (o : Option Refusal) → Small time (or_refused o Ticked)
-      go None = tt
-      go (Some r) = tt
+      go (Some r) = or_small time (completion_refusal time r m) (Done r.number) tt
+  small (Tick time) m near = or_small time (tick_refusal time m) Ticked tt
 
   -- each command leads to a machine of which the same can be said
   called : (c : Call) (m : Machine) → StaysNear choice next m → StaysNear choice next (after_call choice next c m)

@@ -1,12 +1,9 @@
 -- Three parts of a line, put one behind the other. Assumes nothing.
-use Rattle.std.proofs.Common.{◌≡◌, ℕ, ◌+◌, ◌≤◌, List, ◌++◌, length, codes, sym, ap, ◌∙◌, append_assoc, arith}
+use Rattle.std.proofs.Common.{◌≡◌, ℕ, ◌+◌, ◌≤◌, List, ◌++◌, length, codes, ap, ◌∙◌, append_assoc, arith}
 use Rattle.std.proofs.lemmas.List.{length-append}
 use Rattle.fields.specs.Buffers.{put}
 use Rattle.fields.proofs.Puts.{put_twice}
 use Rattle.listing.specs.Lines.{named, share_line}
-
-pub length_three : (a b c : List ℕ) → length (a ++ (b ++ c)) ≡ length a + length b + length c
-length_three a b c = length-append a (b ++ c) ∙ omega (arith, length-append b c)
 
 pub put_three : (at first second : ℕ) (a b c out : List ℕ) {one two three : List ℕ} → one ≡ put at a out → two ≡ put first b one → three ≡ put second c two → first ≡ at + length a → second ≡ first + length b → at ≤ length out
     → three ≡ put at (a ++ (b ++ c)) out
@@ -16,6 +13,3 @@ put_three at first second a b c out p q r e f room =
 -- an application's line, by its three parts
 pub share_parts : (k w s : ℕ) → named (codes "app ") k (codes " ") ++ (named (codes "weight ") w (codes " ") ++ named (codes "sent ") s (codes "\n")) ≡ share_line k w s
 share_parts k w s = simp append_assoc
-
-pub share_long : (k w s : ℕ) → length (share_line k w s) ≡ length (named (codes "app ") k (codes " ")) + length (named (codes "weight ") w (codes " ")) + length (named (codes "sent ") s (codes "\n"))
-share_long k w s = sym (ap length (share_parts k w s)) ∙ length_three (named (codes "app ") k (codes " ")) (named (codes "weight ") w (codes " ")) (named (codes "sent ") s (codes "\n"))

@@ -1,11 +1,12 @@
 -- The lines of a listing: words, and numbers in decimal, with one space between two of them and a newline
 -- behind the last.
-use Rattle.std.specs.Prelude.{ℕ, List, [], ◌∷◌, ◌++◌, map, codes, decimal}
-use Rattle.driver.specs.Runs.{time_of}
+use Rattle.std.specs.Prelude.{ℕ, List, [], ◌∷◌, ◌++◌, map, codes, decimal, Ok, Err, Result}
+use Rattle.driver.specs.Runs.{refused_number, time_of}
+use Rattle.driver.specs.declared.command.Answer.{Answer}
+use Rattle.driver.specs.declared.command.Answer.TheVariants.{Accepted, Sent, Held, Nothing, Done, Ticked}
 use Rattle.driver.specs.declared.command.Command.{Command}
 use Rattle.driver.specs.declared.command.Command.TheVariants.{Arrival, Dispatch, Completion, Tick}
-use Rattle.driver.specs.declared.command.Outcome.{Outcome}
-use Rattle.driver.specs.declared.command.Outcome.TheVariants.{Accepted, Sent, Held, Nothing, Done, Ticked, Refused}
+use Rattle.driver.specs.declared.command.Refused.{Refused}
 use Rattle.records.specs.Faults.{layer_number, cause_number}
 use Rattle.records.specs.declared.fault.Fault.{Fault}
 
@@ -26,14 +27,14 @@ application_of (Completion time) = 0
 application_of (Tick time) = 0
 
 -- the line of an event, by the command and what came of it
-abbrev pub event_line : Command → Outcome → List ℕ
-event_line c (Accepted n) = text (decimal (time_of c) ∷ codes "arrive" ∷ decimal (application_of c) ∷ decimal n ∷ [])
-event_line c (Sent q) = text (decimal (time_of c) ∷ codes "send" ∷ decimal q.application ∷ decimal q.number ∷ decimal q.first ∷ decimal q.size ∷ [])
-event_line c (Held k until) = text (decimal (time_of c) ∷ codes "hold" ∷ decimal k ∷ decimal until ∷ [])
-event_line c Nothing = text (decimal (time_of c) ∷ codes "none" ∷ [])
-event_line c (Done n) = text (decimal (time_of c) ∷ codes "done" ∷ decimal n ∷ [])
-event_line c Ticked = text (decimal (time_of c) ∷ codes "tick" ∷ [])
-event_line c (Refused n) = text (decimal (time_of c) ∷ codes "refuse" ∷ decimal n ∷ [])
+abbrev pub event_line : Command → Result Answer Refused → List ℕ
+event_line c (Ok (Accepted n)) = text (decimal (time_of c) ∷ codes "arrive" ∷ decimal (application_of c) ∷ decimal n ∷ [])
+event_line c (Ok (Sent q)) = text (decimal (time_of c) ∷ codes "send" ∷ decimal q.application ∷ decimal q.number ∷ decimal q.first ∷ decimal q.size ∷ [])
+event_line c (Ok (Held k until)) = text (decimal (time_of c) ∷ codes "hold" ∷ decimal k ∷ decimal until ∷ [])
+event_line c (Ok Nothing) = text (decimal (time_of c) ∷ codes "none" ∷ [])
+event_line c (Ok (Done n)) = text (decimal (time_of c) ∷ codes "done" ∷ decimal n ∷ [])
+event_line c (Ok Ticked) = text (decimal (time_of c) ∷ codes "tick" ∷ [])
+event_line c (Err r) = text (decimal (time_of c) ∷ codes "refuse" ∷ decimal (refused_number r) ∷ [])
 
 -- the line of an application: its number, its weight, and the sectors that were sent for it
 abbrev pub share_line : ℕ → ℕ → ℕ → List ℕ

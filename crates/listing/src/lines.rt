@@ -1,4 +1,7 @@
-//! Whole lines. Each function answers where it ended.
+//! Whole lines, each put into a buffer from a place on. Each function answers where it ended.
+
+// A buffer and a place, and no struct of both: one that held the `&mut` would need a clause in each contract that it is still the same buffer.
+// Bytes and no `write!`: a contract gives every byte and where the line ends, which a writer over the buffer would have to promise anew.
 
 ghost use Rattle.std.specs.Prelude.{◌≡◌, ◌+◌, ◌≤◌, length};
 ghost use Rattle.driver.specs.Runs.{time_of};
@@ -7,7 +10,7 @@ ghost use Rattle.fields.specs.Buffers.{put};
 ghost use Rattle.listing.specs.Lines.{application_of, event_line, fault_line, named, share_line, timed};
 
 use crate::numbers::{put_decimal, put_numbers};
-use driver::command::{Command, Outcome};
+use driver::command::{Answer, Command, Outcome};
 use fields::put::put_bytes;
 use pools::request::Request;
 use records::fault::Fault;
@@ -20,11 +23,11 @@ pub fn put_event(out: &mut [u8], at: usize, command: Command, outcome: Outcome) 
 {
     let time = command.time();
     match outcome {
-        Outcome::Accepted(number) => {
+        Ok(Answer::Accepted(number)) => {
             let application = u64::from(application_of(command));
             put_timed(out, at, time, b" arrive", &[application, number])
         }
-        Outcome::Sent(request) => {
+        Ok(Answer::Sent(request)) => {
             let application = u64::from(request.application);
             let size = u64::from(request.size);
             put_timed(
@@ -35,57 +38,57 @@ pub fn put_event(out: &mut [u8], at: usize, command: Command, outcome: Outcome) 
                 &[application, request.number, request.first, size],
             )
         }
-        Outcome::Held(application, until) => {
+        Ok(Answer::Held { application, until }) => {
             put_timed(out, at, time, b" hold", &[u64::from(application), until])
         }
-        Outcome::Nothing => put_timed(out, at, time, b" none", &[]),
-        Outcome::Done(number) => put_timed(out, at, time, b" done", &[number]),
-        Outcome::Ticked => put_timed(out, at, time, b" tick", &[]),
-        Outcome::Refused(number) => put_timed(out, at, time, b" refuse", &[u64::from(number)]),
+        Ok(Answer::Nothing) => put_timed(out, at, time, b" none", &[]),
+        Ok(Answer::Done(number)) => put_timed(out, at, time, b" done", &[number]),
+        Ok(Answer::Ticked) => put_timed(out, at, time, b" tick", &[]),
+        Err(refused) => {
+            let number = u64::from(u8::from(refused));
+            put_timed(out, at, time, b" refuse", &[number])
+        }
     }
 }
 
 /// The application that an arrival is of; of any other call 0, which stands in no line.
+// No Option: a None would ask `put_event` for one more line, of an answer that such a call never has.
 fn application_of(command: Command) -> u8
     ensures { result ≡ application_of command }
 {
     match command {
-        Command::Arrival {
-            time: _,
-            application,
-            first: _,
-            size: _,
-            kind: _,
-        } => application,
-        Command::Dispatch(_) => 0,
-        Command::Completion(_) => 0,
-        Command::Tick(_) => 0,
+        Command::Arrival { application, .. } => application,
+        Command::Dispatch(_) | Command::Completion(_) | Command::Tick(_) => 0,
     }
 }
 
-/// Writes nothing: its contract is that no event's line has more than 64 bytes.
+/// Writes nothing: its contract is that no event's line has more than 64 bytes. It takes the numbers out,
+/// since a proof knows how large a number can be once the code has it by itself.
 pub fn event_line_is_short(command: Command, outcome: Outcome)
     requires { Small (time_of command) outcome }
     ensures { length (event_line command outcome) ≤ 64 }
 {
     let _time = command.time();
     let _application = application_of(command);
-    match outcome {
-        Outcome::Accepted(_number) => {}
-        Outcome::Sent(request) => {
+    let Ok(answer) = outcome else {
+        return;
+    };
+    match answer {
+        Answer::Accepted(_number) => {}
+        Answer::Sent(request) => {
             let Request {
                 number: _number,
                 application: _application,
-                first: _,
-                size: _,
-                kind: _,
+                ..
             } = request;
         }
-        Outcome::Held(_application, _until) => {}
-        Outcome::Nothing => {}
-        Outcome::Done(_number) => {}
-        Outcome::Ticked => {}
-        Outcome::Refused(_number) => {}
+        Answer::Held {
+            application: _application,
+            until: _until,
+        } => {}
+        Answer::Nothing => {}
+        Answer::Done(_number) => {}
+        Answer::Ticked => {}
     }
 }
 
@@ -134,14 +137,8 @@ pub fn put_fault(out: &mut [u8], fault: Fault) -> usize
         number,
         place,
     } = fault;
+    let layer = u64::from(u8::from(layer));
+    let cause = u64::from(u8::from(number));
     let end = put_bytes(out, 0, b"fault");
-    put_numbers(
-        out,
-        end,
-        &[
-            u64::from(layer.number()),
-            u64::from(number.number()),
-            place as u64,
-        ],
-    )
+    put_numbers(out, end, &[layer, cause, place as u64])
 }

@@ -138,7 +138,7 @@ module _ (choice : Choice) (next : Rule) where
   in_time time m others e = go (out_of_time time m) refl e
     where
       go : (b : Bool) → out_of_time time m ≡ b → cond b (Some Time) others ≡ None → time ≤ 2 ^ 40
-      go true q e = let z : ◌≡◌ {A = ℕ} 0 1 = cc in absurd (omega arith)
+      go true q e = absurd cc
       go false q e = ltb-false (2 ^ 40) time (or_parts (ltb time m.clock) (ltb (2 ^ 40) time) q).1
 
   clock_most : (o : Option Refusal) (time : ℕ) (new old : Machine) → (o ≡ None → time ≤ 2 ^ 40) → new.clock ≡ time → old.clock ≤ 2 ^ 40 → (unless o new old).clock ≤ 2 ^ 40

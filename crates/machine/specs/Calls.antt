@@ -1,6 +1,6 @@
 -- The calls of a scheduler: when each is refused, what it answers, and what it leaves. A refused call
 -- changes nothing.
-use Rattle.std.specs.Prelude.{ℕ, ◌+◌, ◌^◌, Bool, true, false, cond, not, ◌||◌, List, [], ◌∷◌, length, Some, None, Option, ◌==◌, nat_le, nat_lt}
+use Rattle.std.specs.Prelude.{ℕ, ◌+◌, ◌^◌, Bool, true, false, cond, not, ◌||◌, List, [], ◌∷◌, length, is_some, Some, None, Option, ◌==◌, nat_le, nat_lt}
 use Rattle.rosters.specs.Applications.{between}
 use Rattle.stamps.specs.Tables.{row}
 use Rattle.pools.specs.Lines.{Choice, line, put_lists}
@@ -43,24 +43,9 @@ abbrev pub request : ℕ → ℕ → ℕ → Kind → Machine → Request
 request a first size kind m = record { number = m.count + 1; application = a; first = first; size = size; kind = kind }
 
 abbrev pub joined : Request → Machine → Machine
-joined r m =
-    record {
-      clock = m.clock;
-      head = m.head;
-      flight = m.flight;
-      until = m.until;
-      table = m.table;
-      lists = put_lists r m.lists;
-      count = m.count + 1;
-      total = m.total + r.size;
-      hold = m.hold;
-    }
+joined r m = record m { lists = put_lists r m.lists; count = m.count + 1; total = m.total + r.size }
 
 -- dispatch
-abbrev pub is_some : Option Request → Bool
-is_some None = false
-is_some (Some r) = true
-
 abbrev pub dispatch_refusal : ℕ → Machine → Option Refusal
 dispatch_refusal time m = first_of ((out_of_time time m, Time) ∷ (is_some m.flight, Busy) ∷ [])
 

@@ -40,16 +40,16 @@ abbrev pub Rule : Type 0
 Rule = ℕ → ℕ → ℕ → Reason → ℕ
 
 abbrev pub with_table : Table → Machine → Machine
-with_table t m = record { clock = m.clock; head = m.head; flight = m.flight; until = m.until; table = t; lists = m.lists; count = m.count; total = m.total; hold = m.hold }
+with_table t m = record m { table = t }
 
 abbrev pub with_until : Option ℕ → Machine → Machine
-with_until u m = record { clock = m.clock; head = m.head; flight = m.flight; until = u; table = m.table; lists = m.lists; count = m.count; total = m.total; hold = m.hold }
+with_until u m = record m { until = u }
 
 abbrev pub with_clock : ℕ → Machine → Machine
-with_clock t m = record { clock = t; head = m.head; flight = m.flight; until = m.until; table = m.table; lists = m.lists; count = m.count; total = m.total; hold = m.hold }
+with_clock t m = record m { clock = t }
 
 abbrev pub with_flight : Option Request → Machine → Machine
-with_flight f m = record { clock = m.clock; head = m.head; flight = f; until = m.until; table = m.table; lists = m.lists; count = m.count; total = m.total; hold = m.hold }
+with_flight f m = record m { flight = f }
 
 -- a request of application k waits
 abbrev pub waits : ℕ → Machine → Bool
@@ -105,18 +105,7 @@ module _ (choice : Choice) (next : Rule) where
 
   -- send: the request goes to the disk
   abbrev pub sent : ℕ → Request → Machine → Machine
-  sent k r m =
-      record {
-        clock = m.clock;
-        head = behind r;
-        flight = Some r;
-        until = m.until;
-        table = charged r.size m.table;
-        lists = taken_lists choice m.lists k m.head;
-        count = m.count;
-        total = m.total;
-        hold = m.hold;
-      }
+  sent k r m = record m { head = behind r; flight = Some r; table = charged r.size m.table; lists = taken_lists choice m.lists k m.head }
 
   abbrev pub next_of : ℕ → Machine → Option Request
   next_of k m = shown choice m.lists k m.head

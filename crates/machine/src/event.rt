@@ -3,7 +3,7 @@
 use pools::request::Kind;
 
 /// The events, each seen by one application: an arrival by the request's, the others by the one that is served.
-#[derive(Clone, Copy)]
+#[derive(Clone, Copy, Debug, PartialEq, Eq)]
 pub enum Event {
     Arrival,
     Dispatch,

@@ -4,12 +4,14 @@
 #![tactic(auto)]
 
 mod budgets;
-mod entry;
+mod fault;
+mod line;
 mod sending;
 mod workload;
 
 use crate::budgets::budgets;
-use crate::entry::Entry;
+use crate::fault::Fault;
+use crate::line::Line;
 use crate::sending::sending_order;
 use crate::workload::Workload;
 use pools::c_look::CLook;
@@ -19,7 +21,6 @@ use pools::pool::Pool;
 use pools::rule::BudgetRule;
 use pools::steady::Steady;
 use std::io;
-use std::io::ErrorKind;
 
 fn main(rt: HostRuntime) -> anyhow::Result<()> {
     run(&rt)
@@ -39,30 +40,23 @@ fn run(rt: &HostRuntime) -> anyhow::Result<()> {
 /// Reads every line; one that cannot be read is reported, and passed over.
 fn read(rt: &HostRuntime) -> anyhow::Result<Workload> {
     let mut workload = Workload::new(rt.alloc());
-    let mut number: u64 = 0;
-    for line in rt.lines(rt.alloc()) {
-        number = number.saturating_add(1);
-        match entry_of(line)? {
-            Some(entry) => {
-                if !workload.add(entry)? {
-                    println!(rt; "line {number}: no room for more than sixteen requests")?;
-                }
+    for (number, line) in (1u64..).zip(rt.lines(rt.alloc())) {
+        match read_line(&mut workload, line) {
+            Ok(()) => {}
+            Err(fault @ (Fault::Unreadable(_) | Fault::NoRoom)) => {
+                println!(rt; "line {number}: {fault}")?;
             }
-            None => println!(rt; "line {number}: cannot be read")?,
+            Err(fault) => return Err(fault.into()),
         }
     }
     Ok(workload)
 }
 
-/// What the line says; none if it says nothing that can be read, or is no text at all.
-fn entry_of(line: io::Result<String>) -> io::Result<Option<Entry>> {
-    match line {
-        Ok(text) => Ok(Entry::parse(text.as_str())),
-        Err(error) => match error.kind() {
-            ErrorKind::InvalidData => Ok(None),
-            _ => Err(error),
-        },
+fn read_line(workload: &mut Workload, line: io::Result<String>) -> Result<(), Fault> {
+    if let Some(line) = Line::parse(&line?)? {
+        workload.add(line)?;
     }
+    Ok(())
 }
 
 fn print_order<P: Pool + Drop>(
@@ -71,11 +65,11 @@ fn print_order<P: Pool + Drop>(
     mut pool: P,
     workload: &Workload,
 ) -> anyhow::Result<()> {
-    for request in workload.requests.iter() {
+    for request in &workload.requests {
         let _ = pool.put(*request);
     }
     print!(rt; "{name}:")?;
-    for request in sending_order(rt.alloc(), &mut pool, workload.head)?.iter() {
+    for request in &sending_order(rt.alloc(), &mut pool, workload.head)? {
         print!(rt; " {}+{}", request.first, request.size)?;
     }
     println!(rt; "")?;
@@ -90,7 +84,7 @@ fn print_budgets<R: BudgetRule>(
     workload: &Workload,
 ) -> anyhow::Result<()> {
     print!(rt; "{name}, limit {limit}:")?;
-    for budget in budgets(rt.alloc(), rule, limit, workload.reasons.as_slice())?.iter() {
+    for budget in &budgets(rt.alloc(), rule, limit, &workload.reasons)? {
         print!(rt; " {budget}")?;
     }
     println!(rt; "")?;

@@ -27,6 +27,7 @@ pub(crate) fn sending_order<P: Pool>(
 }
 
 /// Where the head stands once the request is sent, as far as 64 bits go.
+// The scheduler moves its own head in the same way, but has no function of it that could be called.
 fn behind(request: Request) -> u64
     ensures { result ≡ behind request }
 {

@@ -1,12 +1,13 @@
 //! What the program was told.
 
-ghost use Rattle.std.specs.Prelude.{◌≡◌, IfOk, vec_len, nat_lt};
+ghost use Rattle.std.specs.Prelude.{◌≡◌, ◌≤◌, ◌↔◌, IsErrOf, is_ok, vec_len};
 ghost use Rattle.order.specs.Workloads.{joined};
 
-use crate::entry::Entry;
+use crate::fault::Fault;
+use crate::line::Line;
 use pools::request::{Kind, Request};
 use pools::rule::Reason;
-use std::alloc::{AllocError, Global};
+use std::alloc::Global;
 
 /// Where the head stands, which requests wait, and how an application's turns ended.
 #[derive(Drop)]
@@ -27,35 +28,35 @@ impl Workload {
         }
     }
 
-    /// Notes what a line said; false if it is a request too many.
-    pub(crate) fn add(&mut self, entry: Entry) -> Result<bool, AllocError> {
-        match entry {
-            Entry::Nothing => {}
-            Entry::Head(sector) => self.head = sector,
-            Entry::Request { first, size } => return self.add_request(first, size),
-            Entry::Rule(limit) => self.limit = Some(limit),
-            Entry::Ended(reason) => self.reasons.push(reason)?,
+    /// Notes what a line said.
+    pub(crate) fn add(&mut self, line: Line) -> Result<(), Fault> {
+        match line {
+            Line::Head(sector) => self.head = sector,
+            Line::Request { first, size } => self.add_request(first, size)?,
+            Line::Rule(limit) => self.limit = Some(limit),
+            Line::Ended(reason) => self.reasons.push(reason)?,
         }
-        Ok(true)
+        Ok(())
     }
 
-    /// Whether there was room for the request.
-    fn add_request(&mut self, first: u64, size: u16) -> Result<bool, AllocError>
-        ensures answer { IfOk result (λ room. room ≡ nat_lt (vec_len self.old.requests) 16) }
-        ensures after { IfOk result (λ room. self.new.requests.items ≡ joined room first size self.old.requests.items) }
+    /// The request waits behind those before it, if there is room.
+    fn add_request(&mut self, first: u64, size: u16) -> Result<(), Fault>
+        ensures no_room { IsErrOf result Fault.NoRoom ↔ (16 ≤ vec_len self.old.requests) }
+        ensures after { self.new.requests.items ≡ joined (is_ok result) first size self.old.requests.items }
+        ensures others { self.new ≡ record self.old { requests = self.new.requests } }
     {
+        // As many as wait in a pool for one application, which `pools` has no constant for.
         let waiting = self.requests.len();
         if waiting >= 16 {
-            return Ok(false);
+            return Err(Fault::NoRoom);
         }
-        let number = waiting as u64 + 1;
         self.requests.push(Request {
-            number,
+            number: waiting as u64 + 1,
             application: 0,
             first,
             size,
             kind: Kind::Asynchronous,
         })?;
-        Ok(true)
+        Ok(())
     }
 }

@@ -8,7 +8,7 @@ use pools::request::Request;
 use pools::table::Table;
 
 /// Chooses the youngest.
-#[derive(Drop)]
+#[derive(Clone, Copy, Default)]
 pub struct Youngest;
 
 impl Chooser for Youngest {
@@ -21,5 +21,5 @@ impl Chooser for Youngest {
     }
 }
 
-/// Made by `Table::with_chooser(heap, Youngest)`.
+/// Made by `LastCome::new(heap)`.
 pub type LastCome = Table<Youngest>;

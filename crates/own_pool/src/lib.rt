@@ -5,3 +5,5 @@
 pub mod last_come;
 pub mod least_budget;
 pub mod tallied;
+#[cfg(test)]
+mod tests;

@@ -2,139 +2,105 @@
 
 use driver::command::Command;
 use pools::request::Kind;
-
-#[derive(Clone, Copy)]
-pub enum PoolKind {
-    FirstCome,
-    CLook,
-}
-
-#[derive(Clone, Copy)]
-pub enum RuleKind {
-    Steady,
-    Feedback,
-}
+use records::tables::{PoolCode, RuleCode};
+use std::error::Error;
+use std::fmt;
+use std::num::TryFromIntError;
 
 /// What a line asks for.
+// The lines `hold` and `app` stand in `sheet` too: the two programs read two languages, each with its own complaint.
 #[derive(Clone, Copy)]
 pub enum Line {
-    /// Nothing: a blank line, or a comment.
-    Blank,
     Hold(u32),
-    Application(u8, u32),
-    Pool(PoolKind),
-    Rule(RuleKind),
+    Application { weight: u8, limit: u32 },
+    Pool(PoolCode),
+    Rule(RuleCode),
     Call(Command),
-    /// Anything else.
-    Unreadable,
 }
 
-pub fn read_line(text: &str) -> Line {
-    let mut words = text.split_whitespace();
-    let Some(first) = words.next() else {
-        return Line::Blank;
-    };
-    if first.starts_with('#') {
-        return Line::Blank;
+/// A line that asks for nothing known.
+#[derive(Clone, Copy, Debug)]
+pub struct Unreadable;
+
+impl fmt::Display for Unreadable {
+    fn fmt<W: fmt::Write>(&self, f: &mut fmt::Formatter<W>) -> fmt::Result {
+        f.write_str("not understood")
     }
-    let line = match (first, words.next(), words.next()) {
-        ("pool", Some("first-come"), None) => Line::Pool(PoolKind::FirstCome),
-        ("pool", Some("c-look"), None) => Line::Pool(PoolKind::CLook),
-        ("rule", Some("steady"), None) => Line::Rule(RuleKind::Steady),
-        ("rule", Some("feedback"), None) => Line::Rule(RuleKind::Feedback),
-        (word, Some(n), None) => one_number(word, n),
-        ("app", Some(weight), Some(limit)) => application(weight, limit),
-        ("arrive", Some(time), Some(app)) => {
-            return arrival(
-                time,
-                app,
-                words.next(),
-                words.next(),
-                words.next(),
-                words.next(),
-            );
+}
+
+impl Error for Unreadable {}
+
+impl Line {
+    /// None for a blank line and for a comment.
+    // No `FromStr`, since a blank line has no value.
+    pub fn parse(text: &str) -> Result<Option<Line>, Unreadable> {
+        let mut words = text.split_whitespace();
+        let Some(first) = words.next().filter(|word| !word.starts_with('#')) else {
+            return Ok(None);
+        };
+        // One word after the other: a match of all seven at once, as `sheet` has for its four, was tried, and its check did not end in three minutes.
+        let line = match first {
+            "hold" => Line::Hold(number(words.next(), u32::MAX)?),
+            "app" => Line::Application {
+                weight: number(words.next(), u8::MAX)?,
+                limit: number(words.next(), u32::MAX)?,
+            },
+            "pool" => Line::Pool(pool(words.next())?),
+            "rule" => Line::Rule(rule(words.next())?),
+            "arrive" => Line::Call(Command::Arrival {
+                time: number(words.next(), u64::MAX)?,
+                application: number(words.next(), u8::MAX)?,
+                first: number(words.next(), u64::MAX)?,
+                size: number(words.next(), u16::MAX)?,
+                kind: kind(words.next())?,
+            }),
+            "dispatch" => Line::Call(Command::Dispatch(number(words.next(), u64::MAX)?)),
+            "complete" => Line::Call(Command::Completion(number(words.next(), u64::MAX)?)),
+            "tick" => Line::Call(Command::Tick(number(words.next(), u64::MAX)?)),
+            _ => return Err(Unreadable),
+        };
+        match words.next() {
+            None => Ok(Some(line)),
+            Some(_) => Err(Unreadable),
         }
-        _ => Line::Unreadable,
-    };
-    match words.next() {
-        None => line,
-        Some(_) => Line::Unreadable,
     }
 }
 
-fn one_number(word: &str, n: &str) -> Line {
-    let Ok(n) = n.parse::<u64>() else {
-        return Line::Unreadable;
-    };
+/// The number that a word says. One too large for its field is cut down to the largest that fits, which is
+/// refused as the number itself would be.
+fn number<T: TryFrom<u64, Error = TryFromIntError> + Drop>(
+    word: Option<&str>,
+    most: T,
+) -> Result<T, Unreadable> {
+    let n = word
+        .and_then(|word| word.parse::<u64>().ok())
+        .ok_or(Unreadable)?;
+    Ok(T::try_from(n).unwrap_or(most))
+}
+
+// `FromStr` cannot be written here, since neither the trait nor `PoolCode` is this program's own.
+fn pool(word: Option<&str>) -> Result<PoolCode, Unreadable> {
     match word {
-        "hold" => Line::Hold(to_u32(n)),
-        "dispatch" => Line::Call(Command::Dispatch(n)),
-        "complete" => Line::Call(Command::Completion(n)),
-        "tick" => Line::Call(Command::Tick(n)),
-        _ => Line::Unreadable,
+        Some("first-come") => Ok(PoolCode::FirstCome),
+        Some("c-look") => Ok(PoolCode::CLook),
+        _ => Err(Unreadable),
     }
 }
 
-fn application(weight: &str, limit: &str) -> Line {
-    match (weight.parse::<u64>(), limit.parse::<u64>()) {
-        (Ok(w), Ok(m)) => Line::Application(to_u8(w), to_u32(m)),
-        _ => Line::Unreadable,
+// `FromStr` cannot be written here, since neither the trait nor `RuleCode` is this program's own.
+fn rule(word: Option<&str>) -> Result<RuleCode, Unreadable> {
+    match word {
+        Some("steady") => Ok(RuleCode::Steady),
+        Some("feedback") => Ok(RuleCode::Feedback),
+        _ => Err(Unreadable),
     }
 }
 
-fn arrival(
-    time: &str,
-    app: &str,
-    first: Option<&str>,
-    size: Option<&str>,
-    kind: Option<&str>,
-    more: Option<&str>,
-) -> Line {
-    let (Some(first), Some(size), Some(kind), None) = (first, size, kind, more) else {
-        return Line::Unreadable;
-    };
-    let kind = match kind {
-        "sync" => Kind::Synchronous,
-        "async" => Kind::Asynchronous,
-        _ => return Line::Unreadable,
-    };
-    match (
-        time.parse::<u64>(),
-        app.parse::<u64>(),
-        first.parse::<u64>(),
-        size.parse::<u64>(),
-    ) {
-        (Ok(time), Ok(app), Ok(first), Ok(size)) => Line::Call(Command::Arrival {
-            time,
-            application: to_u8(app),
-            first,
-            size: to_u16(size),
-            kind,
-        }),
-        _ => Line::Unreadable,
-    }
-}
-
-// A number too large for its field is cut down to the largest that fits, which is refused as the number
-// itself would be.
-
-fn to_u32(n: u64) -> u32 {
-    match u32::try_from(n) {
-        Ok(x) => x,
-        Err(_) => u32::MAX,
-    }
-}
-
-fn to_u16(n: u64) -> u16 {
-    match u16::try_from(n) {
-        Ok(x) => x,
-        Err(_) => u16::MAX,
-    }
-}
-
-fn to_u8(n: u64) -> u8 {
-    match u8::try_from(n) {
-        Ok(x) => x,
-        Err(_) => u8::MAX,
+// `FromStr` cannot be written here, since neither the trait nor `Kind` is this program's own.
+fn kind(word: Option<&str>) -> Result<Kind, Unreadable> {
+    match word {
+        Some("sync") => Ok(Kind::Synchronous),
+        Some("async") => Ok(Kind::Asynchronous),
+        _ => Err(Unreadable),
     }
 }

@@ -1,138 +1,111 @@
 //! The script: what is read, and how it is run.
 
-use crate::line::{Line, PoolKind, RuleKind, read_line};
-use crate::report::{Member, members, print_outcomes, print_shares};
-use driver::command::{Command, Outcome};
+use crate::fault::Fault;
+use crate::line::Line;
+use crate::report::{Shares, print_outcomes};
+use driver::command::{Answer, Command, Outcome};
 use driver::script::run;
 use pools::c_look::CLook;
 use pools::feedback::Feedback;
 use pools::first_come::FirstCome;
+use pools::pool::Pool;
+use pools::rule::BudgetRule;
 use pools::steady::Steady;
-use rosters::refusal::Refusal;
+use records::tables::{PoolCode, RuleCode};
 use rosters::roster::Roster;
 use std::alloc::{AllocError, Global};
 
 #[derive(Drop)]
 struct Script {
     roster: Roster,
-    pool: PoolKind,
-    rule: RuleKind,
+    pool: PoolCode,
+    rule: RuleCode,
     commands: Vec<Command>,
 }
 
+/// The commands of a script, and what each came to.
+#[derive(Drop)]
+struct History {
+    commands: Vec<Command>,
+    outcomes: Vec<Outcome>,
+}
+
 pub fn run_script(rt: &HostRuntime) -> anyhow::Result<()> {
-    let heap = rt.alloc();
-    let script = read_script(rt)?;
-    let members = members(heap, &script.roster)?;
-    let Script {
-        roster,
-        pool,
-        rule,
-        commands,
-    } = script;
-    let mut outcomes = vec![in heap; Outcome::Ticked; commands.len()]?;
-    run_kinds(
-        heap,
-        roster,
-        pool,
-        rule,
-        commands.as_slice(),
-        outcomes.as_mut_slice(),
-    )?;
-    print_outcomes(rt, commands.as_slice(), outcomes.as_slice())?;
-    print_shares(rt, members.as_slice(), outcomes.as_slice())
+    let script = Script::read(rt)?;
+    let shares = Shares::of(rt.alloc(), &script.roster)?;
+    let History { commands, outcomes } = script.run(rt.alloc())?;
+    print_outcomes(rt, &commands, &outcomes)?;
+    shares.print(rt, &outcomes)
 }
 
-fn run_kinds(
-    heap: Global,
-    roster: Roster,
-    pool: PoolKind,
-    rule: RuleKind,
-    commands: &[Command],
-    outcomes: &mut [Outcome],
-) -> Result<usize, AllocError> {
-    Ok(match (pool, rule) {
-        (PoolKind::FirstCome, RuleKind::Steady) => run(
-            roster,
-            FirstCome::new(heap)?,
-            Steady,
-            commands,
-            outcomes,
-        ),
-        (PoolKind::FirstCome, RuleKind::Feedback) => run(
-            roster,
-            FirstCome::new(heap)?,
-            Feedback,
-            commands,
-            outcomes,
-        ),
-        (PoolKind::CLook, RuleKind::Steady) => run(
-            roster,
-            CLook::new(heap)?,
-            Steady,
-            commands,
-            outcomes,
-        ),
-        (PoolKind::CLook, RuleKind::Feedback) => run(
-            roster,
-            CLook::new(heap)?,
-            Feedback,
-            commands,
-            outcomes,
-        ),
-    })
-}
+impl Script {
+    fn new(heap: Global) -> Result<Script, AllocError> {
+        Ok(Script {
+            roster: Roster::new(heap)?,
+            pool: PoolCode::FirstCome,
+            rule: RuleCode::Steady,
+            commands: Vec::new(heap),
+        })
+    }
 
-fn read_script(rt: &HostRuntime) -> anyhow::Result<Script> {
-    let heap = rt.alloc();
-    let mut script = Script {
-        roster: Roster::new(heap)?,
-        pool: PoolKind::FirstCome,
-        rule: RuleKind::Steady,
-        commands: Vec::new(heap),
-    };
-    let mut number: u64 = 0;
-    for line in rt.lines(heap) {
-        let text = line?;
-        number = number.saturating_add(1);
-        if let Some(refusal) = enter(&mut script, read_line(text.as_str()))? {
-            println!(rt; "line {number}: {refusal}")?;
+    /// Reads every line; one that cannot be read or is refused is reported, and passed over.
+    fn read(rt: &HostRuntime) -> anyhow::Result<Script> {
+        let mut script = Script::new(rt.alloc())?;
+        for (number, line) in (1u64..).zip(rt.lines(rt.alloc())) {
+            let text = line?;
+            match script.enter(&text) {
+                Ok(()) => {}
+                Err(Fault::OutOfMemory(error)) => return Err(error.into()),
+                Err(fault) => println!(rt; "line {number}: {fault}")?,
+            }
+        }
+        Ok(script)
+    }
+
+    /// Enters one line; a line that asks for nothing changes nothing.
+    fn enter(&mut self, text: &str) -> Result<(), Fault> {
+        match Line::parse(text)? {
+            None => {}
+            Some(Line::Hold(ticks)) => self.roster.set_hold(ticks)?,
+            Some(Line::Application { weight, limit }) => {
+                self.roster.add(weight, limit)?;
+            }
+            Some(Line::Pool(pool)) => self.pool = pool,
+            Some(Line::Rule(rule)) => self.rule = rule,
+            Some(Line::Call(command)) => self.commands.push(command)?,
+        }
+        Ok(())
+    }
+
+    /// Runs the commands by the pool and the rule that the script names.
+    // A match of types, and no dyn or enum: what a pool chooses and a rule gives are ghost members of its type.
+    fn run(self, heap: Global) -> Result<History, AllocError> {
+        match (self.pool, self.rule) {
+            (PoolCode::FirstCome, RuleCode::Steady) => {
+                self.run_by(heap, FirstCome::new(heap)?, Steady)
+            }
+            (PoolCode::FirstCome, RuleCode::Feedback) => {
+                self.run_by(heap, FirstCome::new(heap)?, Feedback)
+            }
+            (PoolCode::CLook, RuleCode::Steady) => self.run_by(heap, CLook::new(heap)?, Steady),
+            (PoolCode::CLook, RuleCode::Feedback) => self.run_by(heap, CLook::new(heap)?, Feedback),
         }
     }
-    Ok(script)
-}
 
-/// Enters a line into the script; answers what is wrong with it, if anything is.
-fn enter(script: &mut Script, line: Line) -> anyhow::Result<Option<&'static str>> {
-    let refused = match line {
-        Line::Blank => None,
-        Line::Hold(ticks) => script.roster.set_hold(ticks).err(),
-        Line::Application(weight, limit) => script.roster.add(weight, limit).err(),
-        Line::Pool(kind) => {
-            script.pool = kind;
-            None
-        }
-        Line::Rule(kind) => {
-            script.rule = kind;
-            None
-        }
-        Line::Call(command) => {
-            script.commands.push(command)?;
-            None
-        }
-        Line::Unreadable => return Ok(Some("not understood")),
-    };
-    Ok(match refused {
-        None => None,
-        Some(refusal) => Some(words(refusal)),
-    })
-}
-
-fn words(refusal: Refusal) -> &'static str {
-    match refusal {
-        Refusal::Full => "refused (1): sixteen applications are on the roster already",
-        Refusal::Weight => "refused (2): a weight is 1 to 10",
-        Refusal::Limit => "refused (3): a limit is 256 to 65536 sectors",
-        Refusal::Hold => "refused (4): a hold is 1 to 1000000 ticks",
+    /// Seals the roster with a pool and a rule, and makes the calls.
+    fn run_by<P: Pool + Drop, R: BudgetRule + Drop>(
+        self,
+        heap: Global,
+        pool: P,
+        rule: R,
+    ) -> Result<History, AllocError> {
+        let Script {
+            roster,
+            commands,
+            ..
+        } = self;
+        let mut outcomes = vec![in heap; Ok(Answer::Nothing); commands.len()]?;
+        run(roster, pool, rule, &commands, &mut outcomes);
+        Ok(History { commands, outcomes })
     }
 }

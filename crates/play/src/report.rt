@@ -1,34 +1,60 @@
 //! What is printed.
 
-use driver::command::{Command, Outcome};
+use driver::command::{Answer, Command, Outcome};
+use pools::request::Request;
 use rosters::roster::Roster;
 use share_law::bound_in_sectors;
 use std::alloc::{AllocError, Global};
 
-/// An application's figures, kept for the report, since the roster is used up by its sealing.
-#[derive(Clone, Copy)]
-pub struct Member {
-    weight: u8,
+/// What is reported of the applications, kept aside, since the roster is used up by its sealing.
+#[derive(Drop)]
+pub struct Shares {
     total_weight: u32,
+    members: Vec<Member>,
+}
+
+/// An application's figures.
+#[derive(Clone, Copy)]
+struct Member {
+    weight: u8,
     bound: u64,
 }
 
-pub fn members(heap: Global, roster: &Roster) -> Result<Vec<Member>, AllocError> {
-    let mut all = Vec::new(heap);
-    let total_weight = roster.total_weight();
-    for number in 0..roster.len() {
-        if let (Some(application), Some(bound)) = (
-            roster.application(number),
-            bound_in_sectors(roster, number),
-        ) {
-            all.push(Member {
-                weight: application.weight,
-                total_weight,
-                bound,
-            })?;
-        }
+impl Shares {
+    pub fn of(heap: Global, roster: &Roster) -> Result<Shares, AllocError> {
+        // By the numbers, since the roster lends no slice of its applications: it is asked by number.
+        let members = (0..roster.len())
+            .filter_map(|number| {
+                Some(Member {
+                    weight: roster.application(number)?.weight,
+                    bound: bound_in_sectors(roster, number)?,
+                })
+            })
+            .collect(heap)?;
+        Ok(Shares {
+            total_weight: roster.total_weight(),
+            members,
+        })
     }
-    Ok(all)
+
+    /// Each application's sectors beside its share of all that were sent, and its bound.
+    pub fn print(&self, rt: &HostRuntime, outcomes: &[Outcome]) -> anyhow::Result<()> {
+        let total_weight = u64::from(self.total_weight);
+        let all = sectors_sent(outcomes, |_| true);
+        for (number, Member { weight, bound }) in self.members.iter().enumerate() {
+            let sent = sectors_sent(outcomes, |request| {
+                usize::from(request.application) == number
+            });
+            let share = all
+                .saturating_mul(u64::from(*weight))
+                .checked_div(total_weight)
+                .unwrap_or(0);
+            println!(rt;
+                "app {number} weight {weight} sent {sent} of {all}, share {share}, never behind by more than {bound}"
+            )?;
+        }
+        Ok(())
+    }
 }
 
 pub fn print_outcomes(
@@ -36,78 +62,29 @@ pub fn print_outcomes(
     commands: &[Command],
     outcomes: &[Outcome],
 ) -> anyhow::Result<()> {
-    for (command, outcome) in commands.iter().zip(outcomes.iter()) {
-        print_outcome(rt, *command, *outcome)?;
+    for (command, outcome) in commands.iter().zip(outcomes) {
+        let time = command.time();
+        match outcome {
+            Ok(answer) => println!(rt; "{time} {answer}")?,
+            Err(refused) => println!(rt; "{time} {refused}")?,
+        }
     }
     Ok(())
 }
 
-fn print_outcome(rt: &HostRuntime, command: Command, outcome: Outcome) -> anyhow::Result<()> {
-    let time = match command {
-        Command::Arrival {
-            time,
-            application: _,
-            first: _,
-            size: _,
-            kind: _,
-        } => time,
-        Command::Dispatch(time) => time,
-        Command::Completion(time) => time,
-        Command::Tick(time) => time,
-    };
-    match outcome {
-        Outcome::Accepted(number) => println!(rt; "{time} arrive {number}")?,
-        Outcome::Sent(request) => {
-            let application = request.application;
-            let number = request.number;
-            let first = request.first;
-            let size = request.size;
-            println!(rt; "{time} send {application} {number} {first} {size}")?
-        }
-        Outcome::Held(application, until) => println!(rt; "{time} hold {application} {until}")?,
-        Outcome::Nothing => println!(rt; "{time} none")?,
-        Outcome::Done(number) => println!(rt; "{time} done {number}")?,
-        Outcome::Ticked => println!(rt; "{time} tick")?,
-        Outcome::Refused(number) => println!(rt; "{time} refuse {number}")?,
-    }
-    Ok(())
-}
-
-/// Each application's sectors beside its share of all that were sent, and its bound.
-pub fn print_shares(
-    rt: &HostRuntime,
-    members: &[Member],
-    outcomes: &[Outcome],
-) -> anyhow::Result<()> {
-    let mut all: u64 = 0;
-    for outcome in outcomes {
-        if let Outcome::Sent(request) = outcome {
-            all = all.saturating_add(u64::from(request.size));
-        }
-    }
-    for (number, member) in members.iter().enumerate() {
-        let sent = sent_for(number, outcomes);
-        let weight = member.weight;
-        let bound = member.bound;
-        let share = all
-            .saturating_mul(u64::from(weight))
-            .checked_div(u64::from(member.total_weight))
-            .unwrap_or(0);
-        println!(rt;
-            "app {number} weight {weight} sent {sent} of {all}, share {share}, never behind by more than {bound}"
-        )?;
-    }
-    Ok(())
-}
-
-fn sent_for(number: usize, outcomes: &[Outcome]) -> u64 {
-    let mut sent: u64 = 0;
-    for outcome in outcomes {
-        if let Outcome::Sent(request) = outcome {
-            if usize::from(request.application) == number {
-                sent = sent.saturating_add(u64::from(request.size));
-            }
-        }
-    }
-    sent
+/// The sectors of the sent requests that are counted.
+fn sectors_sent<F: Fn(&Request) -> bool>(outcomes: &[Outcome], counted: F) -> u64
+    requires { F.IsAlwaysCallable counted }
+{
+    outcomes
+        .iter()
+        .filter_map(|outcome| match outcome {
+            Ok(Answer::Sent(request)) => Some(request),
+            _ => None,
+        })
+        .filter(|request| counted(request))
+        .fold(
+            0u64,
+            |sum, request| sum.saturating_add(u64::from(request.size)),
+        )
 }

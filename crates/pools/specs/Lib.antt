@@ -1,3 +1,4 @@
+pub mod Codes
 pub mod Refusals
 pub mod Lines
 pub mod View

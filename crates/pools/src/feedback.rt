@@ -28,7 +28,7 @@ impl BudgetRule for Feedback {
 
     fn next(&self, limit: u32, last: u32, served: u32, reason: Reason) -> u32 {
         match reason {
-            Reason::Exhausted => (4 * u64::from(last)).min(u64::from(limit)) as u32,
+            Reason::Exhausted => last.saturating_mul(4).min(limit),
             Reason::HoldRanOut => last.saturating_sub(limit / 8).max(LEAST),
             Reason::RanDry => last,
         }

@@ -10,6 +10,7 @@ mod methods;
 #[derive(Drop)]
 pub(crate) struct Line {
     requests: Vec<Request>,
+    // No impl Model: contracts would see a list of any length, and a pool's law `few` has to hold of every line.
     ghost few: { vec_len requests ≤ 16 },
     ghost room: { 16 ≤ vec_capacity requests },
 }

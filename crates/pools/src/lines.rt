@@ -10,5 +10,6 @@ mod methods;
 #[derive(Drop)]
 pub(crate) struct Lines {
     lines: Vec<Line>,
+    // No impl Model: contracts would see a list of any length, and a pool's law `sixteen` has to hold of all lines.
     ghost sixteen: { vec_len lines ≡ 16 },
 }

@@ -5,7 +5,7 @@ ghost use Rattle.pools.specs.Fits.{Fits};
 ghost use Rattle.pools.specs.declared.rule.Reason.{Reason};
 
 /// Why an application's turn at the disk ended.
-#[derive(Clone, Copy)]
+#[derive(Clone, Copy, Debug, PartialEq, Eq)]
 pub enum Reason {
     /// Its next request did not fit what was left of its budget.
     Exhausted,

@@ -1,7 +1,6 @@
 //! One table of lines serves every way to choose.
 
-ghost use Rattle.std.specs.Prelude.{◌≡◌, ◌<◌, length, is_some, IfOk, nat_lt};
-ghost use Rattle.std.specs.List.{slice_get};
+ghost use Rattle.std.specs.Prelude.{◌≡◌, IfOk};
 ghost use Rattle.pools.specs.Lines.{empty_lists};
 ghost use Rattle.pools.specs.View.{lists_of};
 ghost use Rattle.pools.specs.Standing.{sixteen_lines, few_in_line};
@@ -31,6 +30,15 @@ impl<C: Chooser + Drop> Table<C> {
     }
 }
 
+impl<C: Chooser + Default + Drop> Table<C> {
+    /// An empty pool, of a kind whose chooser needs nothing to be made.
+    pub fn new(heap: Global) -> Result<Table<C>, AllocError>
+        ensures { IfOk result (λ t. lists_of t ≡ empty_lists) }
+    {
+        Table::with_chooser(heap, C::default())
+    }
+}
+
 impl<C: Chooser> Pool for Table<C> {
     ghost lists = { λ t. lists_of t };
 
@@ -53,7 +61,7 @@ impl<C: Chooser> Pool for Table<C> {
     fn show(&self, application: u8, head: u64) -> Option<Request> {
         let line = self.lines.line(application);
         let place = self.chooser.choose(line, head);
-        request_at(line, place)
+        line.get(place).copied()
     }
 
     fn take(&mut self, application: u8, head: u64) -> Option<Request> {
@@ -64,11 +72,4 @@ impl<C: Chooser> Pool for Table<C> {
     fn count(&self, application: u8) -> usize {
         self.lines.line(application).len()
     }
-}
-
-fn request_at(line: &[Request], place: usize) -> Option<Request>
-    ensures answer { result ≡ slice_get line.now place }
-    ensures some { (0 < length line.now → place < length line.now) → is_some result ≡ nat_lt 0 (length line.now) }
-{
-    line.get(place).copied()
 }

@@ -1,9 +1,10 @@
 -- Each code and its meaning give each other back. Assumes nothing.
 use Rattle.std.proofs.Common.{◌≡◌, ℕ, true, is_some, Some, unwrap_or, refl, arith}
 use Rattle.std.proofs.lemmas.Bool.Decides.{nat_tests}
-use Rattle.records.specs.Codes.{rule_of, rule_code, pool_of, pool_code, kind_of, kind_code, event_of, event_code, event_argument}
-use Rattle.records.specs.declared.kind.Kind.{Kind}
-use Rattle.records.specs.declared.kind.Kind.TheVariants.{Asynchronous, Synchronous}
+use Rattle.pools.specs.Codes.{kind_of, kind_code}
+use Rattle.pools.specs.declared.request.Kind.{Kind}
+use Rattle.pools.specs.declared.request.Kind.TheVariants.{Asynchronous, Synchronous}
+use Rattle.records.specs.Codes.{rule_of, rule_code, pool_of, pool_code, event_of, event_code, event_argument}
 use Rattle.records.specs.declared.tables.RuleCode.{RuleCode}
 use Rattle.records.specs.declared.tables.RuleCode.TheVariants.{Steady, Feedback}
 use Rattle.records.specs.declared.tables.PoolCode.{PoolCode}

@@ -1,16 +1,17 @@
 -- Each record and its bytes give each other back. Assumes nothing.
-use Rattle.std.proofs.Common.{◌≡◌, ℕ, zero, suc, ◌+◌, ◌^◌, ◌<◌, ◌≤◌, true, ◌&&◌, eqb, List, [], ◌∷◌, ◌++◌, length, get_or, take, drop, is_some, Some, Option, unwrap_or, sym, refl, ap, ◌∙◌, ap₂, ⊎_elim, arith}
-use Rattle.std.specs.List.{AllByRecursion}
+use Rattle.std.proofs.Common.{◌≡◌, ℕ, zero, suc, ◌+◌, ◌^◌, ◌<◌, ◌≤◌, Bool, true, ◌&&◌, eqb, List, [], ◌∷◌, ◌++◌, length, get_or, take, drop, is_some, Some, Option, unwrap_or, sym, refl, ap, ◌∙◌, ap₂, ⊎_elim, lit<, arith}
+use Rattle.std.specs.List.{All}
 use Rattle.std.proofs.lemmas.Bool.{and_parts, eqb-true, cases_eq}
-use Rattle.std.proofs.ByRecursion.{All-drop, All-take}
+use Rattle.std.proofs.lemmas.List.Elements.{All-head, All-tail, All-drop, All-take}
 use Rattle.std.proofs.lemmas.List.{length-take}
 use Rattle.std.proofs.lemmas.Bool.Decides.{nat_tests}
 use Rattle.fields.specs.Numbers.{bytes, number, field}
 use Rattle.fields.proofs.Digits.{number_bytes, bytes_number, number_below}
-use Rattle.records.specs.Codes.{rule_of, pool_of, kind_of, event_of, event_argument, rule_code, pool_code, kind_code, event_code}
+use Rattle.pools.specs.Codes.{kind_of, kind_code}
+use Rattle.pools.specs.declared.request.Kind.{Kind}
+use Rattle.pools.specs.declared.request.Kind.TheVariants.{Asynchronous}
+use Rattle.records.specs.Codes.{rule_of, pool_of, event_of, event_argument, rule_code, pool_code, event_code}
 use Rattle.records.specs.Layouts.{blank, settings_bytes, settings_of, settings_sound, settings_fits, application_bytes, application_of, application_sound, application_fits, request_bytes, request_of, request_sound, request_fits, event_bytes, event_record_of, event_sound, event_fits}
-use Rattle.records.specs.declared.kind.Kind.{Kind}
-use Rattle.records.specs.declared.kind.Kind.TheVariants.{Asynchronous}
 use Rattle.records.specs.declared.tables.RuleCode.{RuleCode}
 use Rattle.records.specs.declared.tables.RuleCode.TheVariants.{Steady}
 use Rattle.records.specs.declared.tables.PoolCode.{PoolCode}
@@ -89,9 +90,9 @@ pub event_laid : (e : EventRecord) → event_fits e → event_sound (event_bytes
 event_laid e h = ap (λ o. is_some o && true) (event_again e h)
 
 -- what holds a record is laid out again from it
-pub application_written : (bs : List ℕ) → length bs ≡ 8 → AllByRecursion Byte bs → application_sound bs ≡ true → application_bytes (application_of bs) ≡ bs
+pub application_written : (bs : List ℕ) → length bs ≡ 8 → All Byte bs → application_sound bs ≡ true → application_bytes (application_of bs) ≡ bs
 application_written bs e h s =
-    over 8 (λ bs. AllByRecursion Byte bs → application_sound bs ≡ true → application_bytes (application_of bs) ≡ bs)
+    over 8 (λ bs. All Byte bs → application_sound bs ≡ true → application_bytes (application_of bs) ≡ bs)
     (λ b0 b1 b2 b3 b4 b5 b6 b7 h s.
     let whole = b0 ∷ b1 ∷ b2 ∷ b3 ∷ b4 ∷ b5 ∷ b6 ∷ b7 ∷ [] in
     let z = zero_at 1 3 whole s in
@@ -101,9 +102,9 @@ application_written bs e h s =
     let limit = bytes_number (b4 ∷ b5 ∷ b6 ∷ b7 ∷ []) (All-drop Byte 4 whole h) in
     cc) bs e h s
 
-pub settings_written : (bs : List ℕ) → length bs ≡ 8 → AllByRecursion Byte bs → settings_sound bs ≡ true → settings_bytes (settings_of bs) ≡ bs
+pub settings_written : (bs : List ℕ) → length bs ≡ 8 → All Byte bs → settings_sound bs ≡ true → settings_bytes (settings_of bs) ≡ bs
 settings_written bs e h s =
-    over 8 (λ bs. AllByRecursion Byte bs → settings_sound bs ≡ true → settings_bytes (settings_of bs) ≡ bs)
+    over 8 (λ bs. All Byte bs → settings_sound bs ≡ true → settings_bytes (settings_of bs) ≡ bs)
     (λ b0 b1 b2 b3 b4 b5 b6 b7 h s.
     let whole = b0 ∷ b1 ∷ b2 ∷ b3 ∷ b4 ∷ b5 ∷ b6 ∷ b7 ∷ [] in
     let known = and_parts (is_some (rule_of b4)) (is_some (pool_of b5) && blank 6 2 whole) s in
@@ -115,9 +116,9 @@ settings_written bs e h s =
     ap₂ ◌++◌ hold (ap₂ (λ r p. r ∷ p ∷ 0 ∷ 0 ∷ []) (rule_written b4 known.0) (pool_written b5 rest.0) ∙ ap₂ (λ x y. b4 ∷ b5 ∷ x ∷ y ∷ []) (sym z6) (sym z7)))
     bs e h s
 
-pub request_written : (bs : List ℕ) → length bs ≡ 16 → AllByRecursion Byte bs → request_sound bs ≡ true → request_bytes (request_of bs) ≡ bs
+pub request_written : (bs : List ℕ) → length bs ≡ 16 → All Byte bs → request_sound bs ≡ true → request_bytes (request_of bs) ≡ bs
 request_written bs e h s =
-    over 16 (λ bs. AllByRecursion Byte bs → request_sound bs ≡ true → request_bytes (request_of bs) ≡ bs)
+    over 16 (λ bs. All Byte bs → request_sound bs ≡ true → request_bytes (request_of bs) ≡ bs)
     (λ b0 b1 b2 b3 b4 b5 b6 b7 b8 b9 b10 b11 b12 b13 b14 b15 h s.
     let whole = b0 ∷ b1 ∷ b2 ∷ b3 ∷ b4 ∷ b5 ∷ b6 ∷ b7 ∷ b8 ∷ b9 ∷ b10 ∷ b11 ∷ b12 ∷ b13 ∷ b14 ∷ b15 ∷ [] in
     let known = and_parts (is_some (kind_of b11)) (blank 12 4 whole) s in
@@ -132,9 +133,9 @@ request_written bs e h s =
     ap₂ ◌++◌ first (ap₂ ◌++◌ size (ap₂ (λ k x. b10 ∷ k ∷ x) kind (ap₂ (λ x y. x ∷ y) z12 (ap₂ (λ x y. x ∷ y) z13 (ap₂ (λ x y. x ∷ y ∷ []) z14 z15))))))
     bs e h s
 
-pub event_record_written : (bs : List ℕ) → length bs ≡ 16 → AllByRecursion Byte bs → event_sound bs ≡ true → event_bytes (event_record_of bs) ≡ bs
+pub event_record_written : (bs : List ℕ) → length bs ≡ 16 → All Byte bs → event_sound bs ≡ true → event_bytes (event_record_of bs) ≡ bs
 event_record_written bs e h s =
-    over 16 (λ bs. AllByRecursion Byte bs → event_sound bs ≡ true → event_bytes (event_record_of bs) ≡ bs)
+    over 16 (λ bs. All Byte bs → event_sound bs ≡ true → event_bytes (event_record_of bs) ≡ bs)
     (λ b0 b1 b2 b3 b4 b5 b6 b7 b8 b9 b10 b11 b12 b13 b14 b15 h s.
     let whole = b0 ∷ b1 ∷ b2 ∷ b3 ∷ b4 ∷ b5 ∷ b6 ∷ b7 ∷ b8 ∷ b9 ∷ b10 ∷ b11 ∷ b12 ∷ b13 ∷ b14 ∷ b15 ∷ [] in
     let argument = b12 ∷ b13 ∷ b14 ∷ b15 ∷ [] in
@@ -150,25 +151,47 @@ event_record_written bs e h s =
     bs e h s
 
 -- what is read from bytes lies within its field
-byte_at : (bs : List ℕ) (i : ℕ) → AllByRecursion Byte bs → get_or bs i 0 < 256
+byte_at : (bs : List ℕ) (i : ℕ) → All Byte bs → get_or bs i 0 < 256
 byte_at [] i h = omega arith
-byte_at (b ∷ bs) zero h = h.0
-byte_at (b ∷ bs) (suc i) h = byte_at bs i h.1
+byte_at (b ∷ bs) zero h = All-head Byte b bs h
+byte_at (b ∷ bs) (suc i) h = byte_at bs i (All-tail Byte b bs h)
 
-field_below : (at n : ℕ) (bs : List ℕ) → AllByRecursion Byte bs → field at n bs < 256 ^ n
+field_below : (at n : ℕ) (bs : List ℕ) → All Byte bs → field at n bs < 256 ^ n
 field_below at n bs h = number_below (take n (drop at bs)) n (All-take Byte n (drop at bs) (All-drop Byte at bs h)) (omega (arith, length-take n (drop at bs)))
 
 argument_below : (c a : ℕ) → event_argument (unwrap_or (event_of c a) Tick) ≤ a
 argument_below c a = grind (arith, nat_tests)
 
-pub settings_of_fits : (bs : List ℕ) → AllByRecursion Byte bs → settings_fits (settings_of bs)
+pub settings_of_fits : (bs : List ℕ) → All Byte bs → settings_fits (settings_of bs)
 settings_of_fits bs h = field_below 0 4 bs h
 
-pub application_of_fits : (bs : List ℕ) → AllByRecursion Byte bs → application_fits (application_of bs)
+pub application_of_fits : (bs : List ℕ) → All Byte bs → application_fits (application_of bs)
 application_of_fits bs h = (byte_at bs 0 h, field_below 4 4 bs h)
 
-pub request_of_fits : (bs : List ℕ) → AllByRecursion Byte bs → request_fits (request_of bs)
+pub request_of_fits : (bs : List ℕ) → All Byte bs → request_fits (request_of bs)
 request_of_fits bs h = (field_below 0 8 bs h, field_below 8 2 bs h, byte_at bs 10 h)
 
-pub event_record_of_fits : (bs : List ℕ) → AllByRecursion Byte bs → event_fits (event_record_of bs)
+pub event_record_of_fits : (bs : List ℕ) → All Byte bs → event_fits (event_record_of bs)
 event_record_of_fits bs h = (field_below 0 8 bs h, omega (arith, argument_below (get_or bs 8 0) (field 12 4 bs), field_below 12 4 bs h))
+
+-- All that, of a kind of record: what each lays out in n bytes, what bytes hold, whether they hold a
+-- record, and whether each number of a record lies within its field.
+pub record Trips {R : Type 0} (n : ℕ) (laid : R → List ℕ) (parsed : List ℕ → R) (sound : List ℕ → Bool) (fits : R → Type 0) : Type 0 where
+  pub some : 0 < n
+  pub long : (r : R) → length (laid r) ≡ n
+  pub held : (r : R) → fits r → sound (laid r) ≡ true
+  pub read : (r : R) → fits r → parsed (laid r) ≡ r
+  pub written : (bs : List ℕ) → length bs ≡ n → All Byte bs → sound bs ≡ true → laid (parsed bs) ≡ bs
+  pub fitting : (bs : List ℕ) → All Byte bs → fits (parsed bs)
+
+pub settings_trips : Trips 8 settings_bytes settings_of settings_sound settings_fits
+settings_trips = record { some = lit< tt; long = λ s. refl; held = λ s h. settings_laid s; read = settings_read; written = settings_written; fitting = settings_of_fits }
+
+pub application_trips : Trips 8 application_bytes application_of application_sound application_fits
+application_trips = record { some = lit< tt; long = λ a. refl; held = λ a h. application_laid a; read = application_read; written = application_written; fitting = application_of_fits }
+
+pub request_trips : Trips 16 request_bytes request_of request_sound request_fits
+request_trips = record { some = lit< tt; long = λ r. refl; held = λ r h. request_laid r; read = request_read; written = request_written; fitting = request_of_fits }
+
+pub event_trips : Trips 16 event_bytes event_record_of event_sound event_fits
+event_trips = record { some = lit< tt; long = λ e. refl; held = event_laid; read = event_record_read; written = event_record_written; fitting = event_record_of_fits }

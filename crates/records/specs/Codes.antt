@@ -1,7 +1,5 @@
 -- What each code of the file means, and which code each meaning has.
 use Rattle.std.specs.Prelude.{ℕ, cond, Some, None, Option, ◌==◌}
-use Rattle.records.specs.declared.kind.Kind.{Kind}
-use Rattle.records.specs.declared.kind.Kind.TheVariants.{Asynchronous, Synchronous}
 use Rattle.records.specs.declared.tables.RuleCode.{RuleCode}
 use Rattle.records.specs.declared.tables.RuleCode.TheVariants.{Steady, Feedback}
 use Rattle.records.specs.declared.tables.PoolCode.{PoolCode}
@@ -22,13 +20,6 @@ pool_of c = cond (c == 0) (Some FirstCome) (cond (c == 1) (Some CLook) None)
 abbrev pub pool_code : PoolCode → ℕ
 pool_code FirstCome = 0
 pool_code CLook = 1
-
-abbrev pub kind_of : ℕ → Option Kind
-kind_of c = cond (c == 0) (Some Asynchronous) (cond (c == 1) (Some Synchronous) None)
-
-abbrev pub kind_code : Kind → ℕ
-kind_code Asynchronous = 0
-kind_code Synchronous = 1
 
 -- only an arrival has an argument
 abbrev pub event_of : ℕ → ℕ → Option Event

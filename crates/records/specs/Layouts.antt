@@ -3,8 +3,9 @@
 use Rattle.std.specs.Prelude.{ℕ, zero, suc, ◌^◌, ◌<◌, Bool, true, ◌&&◌, List, [], ◌∷◌, ◌++◌, is_some, ◌==◌, slice_index}
 use Rattle.fields.specs.Numbers.{bytes, field}
 use Rattle.std.specs.Option.{unwrap_or}
-use Rattle.records.specs.Codes.{rule_of, rule_code, pool_of, pool_code, kind_of, kind_code, event_of, event_code, event_argument}
-use Rattle.records.specs.declared.kind.Kind.TheVariants.{Asynchronous}
+use Rattle.pools.specs.Codes.{kind_of, kind_code}
+use Rattle.pools.specs.declared.request.Kind.TheVariants.{Asynchronous}
+use Rattle.records.specs.Codes.{rule_of, rule_code, pool_of, pool_code, event_of, event_code, event_argument}
 use Rattle.records.specs.declared.tables.RuleCode.TheVariants.{Steady}
 use Rattle.records.specs.declared.tables.PoolCode.TheVariants.{FirstCome}
 use Rattle.records.specs.declared.tables.Event.TheVariants.{Tick}

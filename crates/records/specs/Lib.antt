@@ -1,3 +1,4 @@
 pub mod Faults
 pub mod Codes
+pub mod Words
 pub mod Layouts

@@ -1,74 +1,80 @@
-//! The codes of the file, each with its meaning. A code without one gives none.
+//! The codes of the file, each with its meaning.
 
-ghost use Rattle.std.specs.Prelude.{◌≡◌};
-ghost use Rattle.records.specs.Codes.{rule_of, rule_code, pool_of, pool_code, kind_of, kind_code, event_of, event_code, event_argument};
+ghost use Rattle.std.specs.Prelude.{◌≡◌, Some, ok_or};
+ghost use Rattle.records.specs.Codes.{rule_of, rule_code, pool_of, pool_code, event_of, event_code, event_argument};
+ghost use Rattle.records.specs.Words.{unknown_text};
 
-use crate::kind::Kind;
 use crate::tables::{Event, PoolCode, RuleCode};
+use std::error::Error;
+use std::fmt;
 
-impl RuleCode {
-    pub fn of(code: u8) -> Option<RuleCode>
-        ensures { result ≡ rule_of code }
-    {
+/// A code that has no meaning.
+#[derive(Clone, Copy, Debug, PartialEq, Eq)]
+pub struct UnknownCode(pub u8);
+
+impl fmt::Display for UnknownCode {
+    ghost output = { λ unknown. Some (unknown_text unknown.0) };
+
+    fn fmt<W: fmt::Write>(&self, f: &mut fmt::Formatter<W>) -> fmt::Result {
+        write!(f, "the code {} has no meaning", self.0)
+    }
+}
+
+impl Error for UnknownCode {}
+
+impl TryFrom<u8> for RuleCode {
+    type Error = UnknownCode;
+
+    ghost try_from_gives = { λ code r. r ≡ ok_or (rule_of code) (record { 0 = code }) };
+
+    fn try_from(code: u8) -> Result<RuleCode, UnknownCode> {
         match code {
-            0 => Some(RuleCode::Steady),
-            1 => Some(RuleCode::Feedback),
-            _ => None,
+            0 => Ok(RuleCode::Steady),
+            1 => Ok(RuleCode::Feedback),
+            _ => Err(UnknownCode(code)),
         }
     }
+}
 
-    pub fn code(self) -> u8
-        ensures { result ≡ rule_code self }
-    {
-        match self {
+impl From<RuleCode> for u8 {
+    ghost from_gives = { λ rule n. n ≡ rule_code rule };
+
+    fn from(rule: RuleCode) -> u8 {
+        match rule {
             RuleCode::Steady => 0,
             RuleCode::Feedback => 1,
         }
     }
 }
 
-impl PoolCode {
-    pub fn of(code: u8) -> Option<PoolCode>
-        ensures { result ≡ pool_of code }
-    {
+impl TryFrom<u8> for PoolCode {
+    type Error = UnknownCode;
+
+    ghost try_from_gives = { λ code r. r ≡ ok_or (pool_of code) (record { 0 = code }) };
+
+    fn try_from(code: u8) -> Result<PoolCode, UnknownCode> {
         match code {
-            0 => Some(PoolCode::FirstCome),
-            1 => Some(PoolCode::CLook),
-            _ => None,
+            0 => Ok(PoolCode::FirstCome),
+            1 => Ok(PoolCode::CLook),
+            _ => Err(UnknownCode(code)),
         }
     }
+}
 
-    pub fn code(self) -> u8
-        ensures { result ≡ pool_code self }
-    {
-        match self {
+impl From<PoolCode> for u8 {
+    ghost from_gives = { λ pool n. n ≡ pool_code pool };
+
+    fn from(pool: PoolCode) -> u8 {
+        match pool {
             PoolCode::FirstCome => 0,
             PoolCode::CLook => 1,
         }
     }
 }
 
-pub fn kind_of(code: u8) -> Option<Kind>
-    ensures { result ≡ kind_of code }
-{
-    match code {
-        0 => Some(Kind::Asynchronous),
-        1 => Some(Kind::Synchronous),
-        _ => None,
-    }
-}
-
-pub fn kind_code(kind: Kind) -> u8
-    ensures { result ≡ kind_code kind }
-{
-    match kind {
-        Kind::Asynchronous => 0,
-        Kind::Synchronous => 1,
-    }
-}
-
 impl Event {
     /// An event by its code and its argument, which is zero but for an arrival.
+    // An event stands in two fields, so TryFrom would take a pair and its error name both: no plainer than two parameters.
     pub fn of(code: u8, argument: u32) -> Option<Event>
         ensures { result ≡ event_of code argument }
     {
@@ -86,6 +92,8 @@ impl Event {
         }
     }
 
+    /// The byte by which a file has the event.
+    // No `From`: in a file an event is two numbers, its code and its argument.
     pub fn code(self) -> u8
         ensures { result ≡ event_code self }
     {
@@ -97,6 +105,7 @@ impl Event {
         }
     }
 
+    /// The request that an arrival names; of any other event 0.
     pub fn argument(self) -> u32
         ensures { result ≡ event_argument self }
     {

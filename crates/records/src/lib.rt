@@ -5,6 +5,7 @@
 pub mod codes;
 pub mod fault;
 pub mod kind;
-pub mod layouts;
+mod layouts;
 pub mod record;
 pub mod tables;
+mod words;

@@ -1,79 +1,38 @@
-//! Records put into a buffer.
+//! The kinds of record.
 
-ghost use Rattle.std.specs.Prelude.{◌≡◌, ℕ, ◌+◌, ◌≤◌, List, length};
+ghost use Rattle.std.specs.Prelude.{◌≡◌, ℕ, ◌+◌, ◌<◌, ◌≤◌, Bool, List, length};
 ghost use Rattle.fields.specs.Buffers.{put};
-ghost use Rattle.records.specs.Layouts.{settings_bytes, settings_fits, application_bytes, application_fits, request_bytes, request_fits, event_bytes, event_fits};
 
-use crate::codes::kind_code;
-use crate::tables::{ApplicationRecord, EventRecord, RequestRecord, Settings};
-use fields::put::{put_bytes, put_u16, put_u32, put_u64};
-
-/// What can be laid out in bytes.
-pub trait Record {
+/// What is laid out in `N` bytes.
+pub trait Record<const N: usize>: Copy {
     ghost laid: { Self → List ℕ };
+
+    // the record that bytes hold, and whether they hold one
+    ghost parsed: { List ℕ → Self };
+
+    ghost sound: { List ℕ → Bool };
 
     // each number lies within its field
     ghost fits: { Self → Type 0 };
 
+    /// Whether bytes hold a record.
+    // Each impl tests byte by byte, as the table of the format has them.
+    fn is_sound(bytes: &[u8; N]) -> bool
+        ensures { result ≡ sound bytes.now };
+
+    /// The record that bytes hold.
+    // Not one Option with the test: a file's records are judged once, and then each reading would have to answer for a None that cannot come.
+    fn of(bytes: &[u8; N]) -> Self
+        ensures { result ≡ parsed bytes.now };
+
     /// Puts the record into a buffer, and answers where it ended.
     fn put(self, out: &mut [u8], at: usize) -> usize
-        requires { at + length (laid self) ≤ length out.old }
-        ensures end { result ≡ at + length (laid self) }
+        requires { at + N ≤ length out.old }
+        ensures end { result ≡ at + N }
         ensures after { out.new ≡ put at (laid self) out.old }
         ensures within { fits self };
-}
 
-impl Record for Settings {
-    ghost laid = { settings_bytes };
+    ghost long: { (r : Self) → length (laid r) ≡ N };
 
-    ghost fits = { settings_fits };
-
-    fn put(self, out: &mut [u8], at: usize) -> usize {
-        let Settings { hold, rule, pool } = self;
-        let end = put_u32(out, at, hold);
-        put_bytes(out, end, &[rule.code(), pool.code(), 0, 0])
-    }
-}
-
-impl Record for ApplicationRecord {
-    ghost laid = { application_bytes };
-
-    ghost fits = { application_fits };
-
-    fn put(self, out: &mut [u8], at: usize) -> usize {
-        let ApplicationRecord { weight, limit } = self;
-        let end = put_bytes(out, at, &[weight, 0, 0, 0]);
-        put_u32(out, end, limit)
-    }
-}
-
-impl Record for RequestRecord {
-    ghost laid = { request_bytes };
-
-    ghost fits = { request_fits };
-
-    fn put(self, out: &mut [u8], at: usize) -> usize {
-        let RequestRecord {
-            first,
-            size,
-            application,
-            kind,
-        } = self;
-        let end = put_u64(out, at, first);
-        let end = put_u16(out, end, size);
-        put_bytes(out, end, &[application, kind_code(kind), 0, 0, 0, 0])
-    }
-}
-
-impl Record for EventRecord {
-    ghost laid = { event_bytes };
-
-    ghost fits = { event_fits };
-
-    fn put(self, out: &mut [u8], at: usize) -> usize {
-        let EventRecord { time, event } = self;
-        let end = put_u64(out, at, time);
-        let end = put_bytes(out, end, &[event.code(), 0, 0, 0]);
-        put_u32(out, end, event.argument())
-    }
+    ghost width: { (0 < N) × (N ≤ 16) };
 }

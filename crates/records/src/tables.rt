@@ -3,21 +3,21 @@
 use crate::kind::Kind;
 
 /// The budget rule that a trace asks for.
-#[derive(Clone, Copy)]
+#[derive(Clone, Copy, Debug, PartialEq, Eq)]
 pub enum RuleCode {
     Steady,
     Feedback,
 }
 
 /// The request pool that a trace asks for.
-#[derive(Clone, Copy)]
+#[derive(Clone, Copy, Debug, PartialEq, Eq)]
 pub enum PoolCode {
     FirstCome,
     CLook,
 }
 
 /// How the scheduler is set up. The hold is counted in ticks.
-#[derive(Clone, Copy)]
+#[derive(Clone, Copy, Debug, PartialEq, Eq)]
 pub struct Settings {
     pub hold: u32,
     pub rule: RuleCode,
@@ -25,14 +25,14 @@ pub struct Settings {
 }
 
 /// One application. The first record is of application 1.
-#[derive(Clone, Copy)]
+#[derive(Clone, Copy, Debug, PartialEq, Eq)]
 pub struct ApplicationRecord {
     pub weight: u8,
     pub limit: u32,
 }
 
 /// A request that events may name.
-#[derive(Clone, Copy)]
+#[derive(Clone, Copy, Debug, PartialEq, Eq)]
 pub struct RequestRecord {
     pub first: u64,
     pub size: u16,
@@ -41,7 +41,7 @@ pub struct RequestRecord {
 }
 
 /// What happens at a time. An arrival names a request by its place among the request records, from 0.
-#[derive(Clone, Copy)]
+#[derive(Clone, Copy, Debug, PartialEq, Eq)]
 pub enum Event {
     Arrival(u32),
     Dispatch,
@@ -49,7 +49,8 @@ pub enum Event {
     Tick,
 }
 
-#[derive(Clone, Copy)]
+/// An event, and when it is.
+#[derive(Clone, Copy, Debug, PartialEq, Eq)]
 pub struct EventRecord {
     pub time: u64,
     pub event: Event,

@@ -19,7 +19,7 @@ use Rattle.rosters.specs.Rosters.{LineUp, fresh, held, if_ok}
 use Rattle.rosters.specs.declared.application.Application.{Application}
 use Rattle.rosters.specs.declared.refusal.Refusal.TheVariants as refusal
 use Rattle.replays.specs.Asked.{enroll, enrolled, member, roster}
-use Rattle.replays.specs.Replays.{Judged}
+use Rattle.replays.specs.Judged.{Judged}
 
 pub judged_of : (t : Tables) (bs : List ℕ) → Makes t bs → Judged t
 judged_of t bs makes =

@@ -1,18 +1,13 @@
 -- What a file asks for: its pool and its rule, its roster, and a command for each event.
-use Rattle.std.specs.Prelude.{ℕ, List, ◌∷◌, map, Some, None, fold, Option, slice_index_or}
+use Rattle.std.specs.Prelude.{ℕ, List, ◌∷◌, map, Some, None, fold, Option}
 use Rattle.std.specs.List.{slice_get}
 use Rattle.driver.specs.declared.command.Command.{Command}
 use Rattle.driver.specs.declared.command.Command.TheVariants as C
 use Rattle.files.specs.Tables.{Tables}
-use Rattle.files.specs.declared.parts.Placed.{Placed}
 use Rattle.machine.specs.Machine.{Rule}
 use Rattle.pools.specs.Budgets.{steady_first, steady_next, feedback_first, feedback_next}
 use Rattle.pools.specs.Choices.{oldest, next_ahead}
 use Rattle.pools.specs.Lines.{Choice}
-use Rattle.pools.specs.declared.request.Kind.{Kind}
-use Rattle.pools.specs.declared.request.Kind.TheVariants.{Asynchronous, Synchronous}
-use Rattle.records.specs.declared.kind.Kind as kind
-use Rattle.records.specs.declared.kind.Kind.TheVariants as K
 use Rattle.records.specs.declared.tables.ApplicationRecord.{ApplicationRecord}
 use Rattle.records.specs.declared.tables.Event.{Event}
 use Rattle.records.specs.declared.tables.Event.TheVariants.{Arrival, Dispatch, Completion, Tick}
@@ -53,22 +48,13 @@ roster t = record { applications = members t.applications; hold = t.settings.hol
 abbrev pub enroll : LineUp → ApplicationRecord → LineUp
 enroll r a = added a.weight a.limit r
 
-abbrev pub enroll_one : Option (Placed ApplicationRecord) → LineUp → LineUp
-enroll_one None r = r
-enroll_one (Some p) r = enroll r p.value
-
 abbrev pub enrolled : Tables → LineUp
 enrolled t = fold enroll (held t.settings.hold fresh) t.applications
-
--- a record's kind, as a request has it
-abbrev pub asked_kind : kind.Kind → Kind
-asked_kind K.Asynchronous = Asynchronous
-asked_kind K.Synchronous = Synchronous
 
 -- an arrival of the request that is named; none is named in vain in an accepted file
 abbrev pub arrival : ℕ → Option RequestRecord → Command
 arrival time None = C.Tick time
-arrival time (Some r) = C.Arrival time r.application r.first r.size (asked_kind r.kind)
+arrival time (Some r) = C.Arrival time r.application r.first r.size r.kind
 
 abbrev pub command_of : List RequestRecord → ℕ → Event → Command
 command_of rs time (Arrival i) = arrival time (slice_get rs i)
@@ -81,7 +67,3 @@ command rs e = command_of rs e.time e.event
 
 abbrev pub commands : Tables → List Command
 commands t = map (command t.requests) t.events
-
--- one of them, if there are so many
-abbrev pub command_at : Tables → ℕ → Command
-command_at t i = slice_index_or (commands t) i (C.Tick 0)

@@ -1,4 +1,5 @@
 pub mod Asked
 pub mod Credits
+pub mod Judged
 pub mod Listings
 pub mod Replays

@@ -1,7 +1,7 @@
 -- What a replay answers, and what it leaves in the buffer.
-use Rattle.std.specs.Prelude.{◌≡◌, ℕ, ◌<◌, ◌≤◌, true, List, length, is_ok, Some, None, Ok, Err, Option, Result}
+use Rattle.std.specs.Prelude.{◌≡◌, ℕ, ◌<◌, ◌≤◌, true, List, length, codes, is_ok, Some, None, Ok, Err, Option, Result}
 use Rattle.fields.specs.Buffers.{put}
-use Rattle.files.specs.Reading.{judge_roster, read}
+use Rattle.files.specs.Reading.{read}
 use Rattle.files.specs.Tables.{Tables}
 use Rattle.histories.specs.Promises.{Kept}
 use Rattle.machine.specs.Machine.{Rule}
@@ -11,12 +11,6 @@ use Rattle.replays.specs.Asked.{choice_of, roster}
 use Rattle.replays.specs.Listings.{history_of, listed, listing, played}
 use Rattle.replays.specs.declared.unlisted.Unlisted.{Unlisted}
 use Rattle.replays.specs.declared.unlisted.Unlisted.TheVariants.{Buffer, Memory}
-
--- what is known of the tables of an accepted file
-pub record Judged (t : Tables) : Type 0 where
-  pub few_applications : length t.applications ≤ 15
-  pub few_events : length t.events ≤ 960
-  pub fair : judge_roster t.settings t.applications ≡ Ok tt
 
 -- a listing was put, from the buffer's beginning on, and the promises hold of its history
 pub record Put (choice : Choice) (first : ℕ → ℕ) (next : Rule) (t : Tables) (old : List ℕ) (n : ℕ) (new : List ℕ) : Type 0 where
@@ -29,6 +23,11 @@ pub record Put (choice : Choice) (first : ℕ → ℕ) (next : Rule) (t : Tables
 abbrev pub number : Unlisted → Option ℕ
 number Buffer = Some 18
 number Memory = None
+
+-- and as a program prints it
+abbrev pub words : Unlisted → List ℕ
+words Buffer = codes "refused (18): the buffer is too short"
+words Memory = codes "there is no memory for the replay"
 
 -- What a replay answers: how long the listing is, or that the buffer is under 62,464 bytes, whatever the
 -- file holds, or that there was no memory for an accepted file. A listing is put from the buffer's

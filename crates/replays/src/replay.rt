@@ -1,13 +1,11 @@
 //! A trace file in, its listing out.
 
 ghost use Rattle.std.specs.Prelude.{◌≡◌, ◌≤◌, length, MatchResult, OnOk};
-ghost use Rattle.trace.specs.View.{tables_of};
-ghost use Rattle.rosters.specs.Rosters.{line_up};
-ghost use Rattle.replays.specs.Asked.{choice_of, first_budget, next_budget, roster};
-ghost use Rattle.replays.specs.Replays.{FilePromises, Judged, Put, Replayed};
+ghost use Rattle.replays.specs.Asked.{choice_of, first_budget, next_budget};
+ghost use Rattle.replays.specs.Replays.{FilePromises, Put, Replayed};
 
 use crate::unlisted::Unlisted;
-use driver::turn::finish;
+use driver::session::Session;
 use listing::lines::put_fault;
 use pools::c_look::CLook;
 use pools::feedback::Feedback;
@@ -15,19 +13,17 @@ use pools::first_come::FirstCome;
 use pools::pool::Pool;
 use pools::rule::BudgetRule;
 use pools::steady::Steady;
-use rosters::roster::Roster;
 use scheduler::scheduler::seal::seal;
 use std::alloc::{AllocError, Global};
 use trace::tables::{PoolCode, RuleCode};
-use trace::trace::Trace;
 
-mod commands;
 mod playing;
 mod shares;
+mod workload;
 
-use commands::roster_of;
 use playing::{Played, play};
 use shares::put_shares;
+use workload::Workload;
 
 /// No listing is longer: 976 lines of at most 64 bytes.
 pub const LISTING_BYTES: usize = 62_464;
@@ -41,68 +37,49 @@ pub fn replay(heap: Global, bytes: &[u8], out: &mut [u8]) -> Result<usize, Unlis
     if out.len() < LISTING_BYTES {
         return Err(Unlisted::Buffer);
     }
-    match Trace::read(bytes) {
+    match Workload::read(bytes) {
+        Ok(workload) => Ok(list_by_settings(heap, &workload, out)?),
         Err(fault) => Ok(put_fault(out, fault)),
-        Ok(trace) => match list_by_rule(heap, &trace, out) {
-            Ok(end) => Ok(end),
-            Err(_) => Err(Unlisted::Memory),
-        },
     }
 }
 
-/// By the rule that the file names.
-fn list_by_rule(heap: Global, trace: &Trace, out: &mut [u8]) -> Result<usize, AllocError>
-    requires judged { Judged (tables_of trace.now) }
-    requires room { 62464 ≤ length out.old }
-    ensures { MatchResult result (λ n. Put (choice_of (tables_of trace.now).settings.pool) (first_budget (tables_of trace.now).settings.rule) (next_budget (tables_of trace.now).settings.rule) (tables_of trace.now) out.old n out.new) (λ _. out.new ≡ out.old) }
+/// By the pool and the rule that the file names.
+// A match of types, and no dyn: what a pool chooses and a rule gives are ghost members of its type, and the contract of `list` names them.
+fn list_by_settings(heap: Global, workload: &Workload, out: &mut [u8]) -> Result<usize, AllocError>
+    requires { 62464 ≤ length out.old }
+    ensures { MatchResult result (λ n. Put (choice_of workload.now.settings.pool) (first_budget workload.now.settings.rule) (next_budget workload.now.settings.rule) workload.now out.old n out.new) (λ _. out.new ≡ out.old) }
 {
-    match trace.settings().rule {
-        RuleCode::Steady => list_by_pool(heap, trace, Steady, out),
-        RuleCode::Feedback => list_by_pool(heap, trace, Feedback, out),
-    }
-}
-
-/// By the pool that the file names, with any rule.
-fn list_by_pool<R: BudgetRule + Drop>(
-    heap: Global,
-    trace: &Trace,
-    rule: R,
-    out: &mut [u8],
-) -> Result<usize, AllocError>
-    requires judged { Judged (tables_of trace.now) }
-    requires room { 62464 ≤ length out.old }
-    ensures { MatchResult result (λ n. Put (choice_of (tables_of trace.now).settings.pool) R.BudgetRule.first_budget R.BudgetRule.next_budget (tables_of trace.now) out.old n out.new) (λ _. out.new ≡ out.old) }
-{
-    let members = roster_of(heap, trace)?;
-    match trace.settings().pool {
-        PoolCode::FirstCome => {
-            let pool = FirstCome::new(heap)?;
-            Ok(list(trace, members, pool, rule, out))
+    let settings = workload.settings();
+    match (settings.pool, settings.rule) {
+        (PoolCode::FirstCome, RuleCode::Steady) => {
+            list(heap, workload, FirstCome::new(heap)?, Steady, out)
         }
-        PoolCode::CLook => {
-            let pool = CLook::new(heap)?;
-            Ok(list(trace, members, pool, rule, out))
+        (PoolCode::FirstCome, RuleCode::Feedback) => {
+            list(heap, workload, FirstCome::new(heap)?, Feedback, out)
+        }
+        (PoolCode::CLook, RuleCode::Steady) => {
+            list(heap, workload, CLook::new(heap)?, Steady, out)
+        }
+        (PoolCode::CLook, RuleCode::Feedback) => {
+            list(heap, workload, CLook::new(heap)?, Feedback, out)
         }
     }
 }
 
-/// Seals the roster of a trace with a pool and a rule, and lists what comes of its events.
+/// Seals the roster with a pool and a rule, and lists what comes of the events.
 fn list<P: Pool + Drop, R: BudgetRule + Drop>(
-    trace: &Trace,
-    members: Roster,
+    heap: Global,
+    workload: &Workload,
     pool: P,
     rule: R,
     out: &mut [u8],
-) -> usize
-    requires same { line_up members ≡ roster (tables_of trace.now) }
-    requires judged { Judged (tables_of trace.now) }
-    requires room { 62464 ≤ length out.old }
-    ensures { Put P.Pool.choice R.BudgetRule.first_budget R.BudgetRule.next_budget (tables_of trace.now) out.old result out.new }
+) -> Result<usize, AllocError>
+    requires { 62464 ≤ length out.old }
+    ensures { MatchResult result (λ n. Put P.Pool.choice R.BudgetRule.first_budget R.BudgetRule.next_budget workload.now out.old n out.new) (λ _. out.new ≡ out.old) }
 {
-    let mut scheduler = seal(members, pool, rule);
-    let mut sent = [0u64; 16];
-    let Played { end, token } = play(&mut scheduler, trace, out, &mut sent);
-    let end = put_shares(trace, &sent, out, end);
-    finish(&mut scheduler, token);
-    end
+    let members = workload.roster(heap)?;
+    let mut session = Session::new(seal(members, pool, rule));
+    let Played { end, sent } = play(&mut session, workload, out);
+    session.finish();
+    Ok(put_shares(workload, &sent, out, end))
 }

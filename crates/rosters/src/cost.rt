@@ -12,10 +12,7 @@ pub fn cost_of_sector(total_weight: u32, weight: u8) -> Option<u64>
     ensures answer { result ≡ cost_answer total_weight weight }
     ensures whole { MatchOption result (between 1 10 weight ≡ false) (λ cost. cost * weight ≡ 2520 * total_weight) }
 {
-    if !is_weight(weight) {
-        return None;
-    }
-    Some(share_of_total(total_weight, weight))
+    is_weight(weight).then(|| share_of_total(total_weight, weight))
 }
 
 pub(crate) fn share_of_total(total_weight: u32, weight: u8) -> u64

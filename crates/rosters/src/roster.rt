@@ -10,10 +10,11 @@ mod methods;
 
 /// Up to 16 applications, numbered from 0, and how long the disk is held for one that has just been
 /// served. Application 0 is always there. Room for all is made with the roster.
+// No impl Model: the proofs of callers need these facts, and with a model they would see the value alone.
 #[derive(Drop)]
 pub struct Roster {
     applications: Vec<Application>,
-    // the room for their stamps, empty until the roster is sealed
+    // the room for their stamps, empty until the roster is sealed, which may not run out of memory
     stamps: Vec<Stamp>,
     hold: u32,
     ghost few: { vec_len applications ≤ 16 },

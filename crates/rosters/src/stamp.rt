@@ -1,13 +1,13 @@
 //! One application's row in the stamp table.
 
-ghost use Rattle.std.specs.Prelude.{◌≡◌, ◌<◌};
+ghost use Rattle.std.specs.Prelude.{◌≡◌, ◌+◌, ◌<◌, nat_le};
 ghost use Rattle.rosters.specs.Stamps.{is_idle, is_queued, new_stamp, may_have};
 
 use crate::application::Application;
 use crate::cost::share_of_total;
 
 /// What an application is doing.
-#[derive(Clone, Copy)]
+#[derive(Clone, Copy, Debug, PartialEq, Eq)]
 pub enum Status {
     /// It wants nothing.
     Idle,
@@ -18,7 +18,7 @@ pub enum Status {
 }
 
 /// What an application is entitled to, and where it stands in virtual time.
-#[derive(Clone, Copy)]
+#[derive(Clone, Copy, Debug, PartialEq, Eq)]
 pub struct Stamp {
     pub weight: u8,
     pub limit: u32,
@@ -70,19 +70,26 @@ impl Stamp {
     pub fn is_idle(&self) -> bool
         ensures { result ≡ is_idle self.now }
     {
-        matches!(self.status, Status::Idle)
+        self.status == Status::Idle
     }
 
     pub fn is_queued(&self) -> bool
         ensures { result ≡ is_queued self.now }
     {
-        matches!(self.status, Status::Queued)
+        self.status == Status::Queued
     }
 
     /// Whether the application may be given this budget.
     pub fn may_have(&self, budget: u32) -> bool
         ensures { result ≡ may_have budget self.now }
     {
-        0 < budget && budget <= self.limit
+        (1..=self.limit).contains(&budget)
+    }
+
+    /// Whether its budget reaches for so many sectors more.
+    pub fn reaches(&self, size: u16) -> bool
+        ensures { result ≡ nat_le (self.now.served + size) self.now.budget }
+    {
+        u64::from(self.served) + u64::from(size) <= u64::from(self.budget)
     }
 }

@@ -12,4 +12,4 @@ pub record Waiting (t : Table) : Type 0 where
 
 -- each budget is the rule's first
 abbrev pub with_first : (ℕ → ℕ) → Table → Table
-with_first first t = record { virtual = t.virtual; sent = t.sent; serving = t.serving; stamps = map (λ s. with_budget (first s.limit) s) t.stamps }
+with_first first t = record t { stamps = map (λ s. with_budget (first s.limit) s) t.stamps }

@@ -1,19 +1,17 @@
 -- What a scheduler of the program stands for.
 use Rattle.std.specs.Prelude.{◌≡◌, ℕ, List}
-use Rattle.machine.specs.Machine.{Machine, Rule, Reply, sends, holds, nothing, next_of, picking_reply, served_reply}
+use Rattle.machine.specs.Machine.{Machine, Rule, Reply, nothing, reply}
 use Rattle.machine.specs.declared.event.Event.{Event}
 use Rattle.machine.specs.declared.event.Event.TheVariants.{Arrival, Dispatch, Completion, Tick}
 use Rattle.pools.specs.Lines.{Choice}
 use Rattle.rosters.specs.declared.stamp.Status.{Status}
-use Rattle.rosters.specs.declared.stamp.Status.TheVariants.{Idle, Queued, Serving}
-use Rattle.scheduler.specs.declared.desk.Desk.{Desk}
 use Rattle.pools.specs.declared.request.Request.{Request}
 use Rattle.stamps.specs.View.{table}
-use Rattle.scheduler.specs.declared.scheduler.Scheduler.{Scheduler}
-use Rattle.scheduler.specs.declared.reply.Reply.{Reply as Answer}
-use Rattle.scheduler.specs.declared.reply.Reply.TheVariants.{Send, Hold, Nothing}
+use Rattle.scheduler.specs.declared.scheduler.Scheduler.TheInside.{Inside}
+use Rattle.scheduler.specs.declared.token.Dispatched.{Dispatched}
+use Rattle.scheduler.specs.Answers.{says}
 
-abbrev pub machine : {P R : Type 0} → (P → List (List Request)) → Scheduler P R → Machine
+abbrev pub machine : {P R : Type 0} → (P → List (List Request)) → Inside P R → Machine
 machine lists s =
     record {
       clock = s.desk.clock;
@@ -27,28 +25,19 @@ machine lists s =
       hold = s.desk.hold;
     }
 
-abbrev pub means : Answer → Reply
-means (Send r) = sends r
-means (Hold k u) = holds k u
-means Nothing = nothing
+-- inside, what is sent is the request itself
+abbrev pub means : Dispatched Request → Reply
+means d = says (λ r. r) d
 
 -- what was accepted so far has not changed
-pub record Same (old new : Desk) : Type 0 where
+pub record Same (old new : Machine) : Type 0 where
   pub count : new.count ≡ old.count
   pub total : new.total ≡ old.total
 
 -- what an event is answered with; only a dispatch is
 module _ (choice : Choice) (next : Rule) where
   abbrev pub heard : Status → Event → ℕ → Machine → Reply
-  heard Idle Arrival k m = nothing
-  heard Queued Arrival k m = nothing
-  heard Serving Arrival k m = nothing
-  heard Idle Dispatch k m = picking_reply choice next m
-  heard Queued Dispatch k m = picking_reply choice next m
-  heard Serving Dispatch k m = served_reply choice next k (next_of choice next k m) m
-  heard Idle (Completion kind) k m = nothing
-  heard Queued (Completion kind) k m = nothing
-  heard Serving (Completion kind) k m = nothing
-  heard Idle Tick k m = nothing
-  heard Queued Tick k m = nothing
-  heard Serving Tick k m = nothing
+  heard st Dispatch k m = reply choice next st k m
+  heard st Arrival k m = nothing
+  heard st (Completion kind) k m = nothing
+  heard st Tick k m = nothing

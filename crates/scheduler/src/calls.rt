@@ -10,6 +10,7 @@ use crate::token::{Dispatched, Returned, Token};
 use machine::refusal::Refusal;
 use pools::request::Kind;
 
+/// What can be asked of a scheduler, or of whatever stands over one. Each call that is refused changes nothing.
 pub trait Calls {
     // the machine that the scheduler stands for
     ghost state: { Self → Machine };
@@ -24,6 +25,7 @@ pub trait Calls {
         ensures { result ≡ (state self.now).clock };
 
     /// A request joins its application's line. Answers its number.
+    // Its four parts and no struct of them: a caller would name each all the same, and a refusal speaks of one at a time.
     fn arrival(
         &mut self,
         time: u64,
@@ -36,7 +38,7 @@ pub trait Calls {
         ensures after { state self.new ≡ arrived choice next time application first size kind (state self.old) };
 
     /// Which request goes to the disk now.
-    fn dispatch(&mut self, time: u64) -> Result<Dispatched, Refusal>
+    fn dispatch(&mut self, time: u64) -> Result<Dispatched<Token>, Refusal>
         ensures answer { told result ≡ answered (dispatch_refusal time (state self.old)) (dispatch_reply choice next time (state self.old)) }
         ensures after { state self.new ≡ dispatched choice next time (state self.old) };
 

@@ -19,3 +19,22 @@ pub(crate) struct Desk {
     ghost few: { count ≤ total },
     ghost modest: { total ≤ 2 ^ 40 },
 }
+
+impl Desk {
+    ghost use Rattle.scheduler.specs.Opening.{Opened};
+
+    /// Nothing has happened yet.
+    pub(crate) fn new(hold: u32) -> Desk
+        ensures { Opened hold result }
+    {
+        Desk {
+            clock: 0,
+            head: 0,
+            flight: None,
+            until: None,
+            count: 0,
+            total: 0,
+            hold,
+        }
+    }
+}

@@ -4,7 +4,5 @@
 
 pub mod calls;
 mod desk;
-mod opening;
-mod reply;
 pub mod scheduler;
 pub mod token;

@@ -9,7 +9,6 @@ use Rattle.stamps.specs.Steps.{initial}
 use Rattle.stamps.specs.Tables.{Table, row}
 use Rattle.stamps.proofs.Beginning.{initial_sound}
 use Rattle.share_model.specs.Model as model
-use Rattle.share_model.specs.Invariant as invariant
 use Rattle.share_model.specs.Stretch.{WithinShare, WithinPair}
 use Rattle.share_model.proofs.Keeps.{inv_start, lag}
 use Rattle.share_model.proofs.Law.{share, pair}

@@ -7,4 +7,3 @@ pub mod Start
 pub mod Stretches
 pub mod Law
 pub mod Bounds
-pub mod Example

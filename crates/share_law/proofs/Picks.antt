@@ -10,7 +10,7 @@ use Rattle.rosters.specs.Rosters.{LineUp}
 use Rattle.rosters.specs.Stamps.{is_queued, no_stamp}
 use Rattle.stamps.specs.Rows.{serve_stamp}
 use Rattle.stamps.specs.Tables.{Table, row, Sound, is_application}
-use Rattle.stamps.specs.Steps.{eligible, start_before, pushed_to, pick_time, finishing, pick_beside, picked_by, fits}
+use Rattle.stamps.specs.Steps.{eligible, start_before, pushed_to, pick_time, finishing, pick_beside, picked_by}
 use Rattle.rosters.specs.declared.stamp.Stamp.{Stamp}
 use Rattle.share_model.specs.Model as model
 use Rattle.share_law.specs.Courses.{Operation, allot, wake, pick, send, requeue, rest, applied, made, sends}

@@ -10,7 +10,7 @@ use Rattle.stamps.specs.Steps.{initial}
 use Rattle.stamps.specs.Tables.{row}
 use Rattle.rosters.specs.declared.application.Application.{Application}
 use Rattle.rosters.proofs.Costs.{whole_cost}
-use Rattle.stamps.proofs.Beginning.{Entitled, entitled}
+use Rattle.rosters.proofs.Lineups.{Entitled, entitled}
 use Rattle.share_model.specs.Model as model
 use Rattle.share_model.specs.Invariant as invariant
 use Rattle.share_law.specs.Shares.{entry, weight_of, limit_of, cost_in, Listed}

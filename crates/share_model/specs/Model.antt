@@ -38,7 +38,7 @@ abbrev pub row : State → ℕ → Row
 row a i = row_of a.rows i
 
 abbrev pub with_status : Row → Status → Row
-with_status r st = record { weight = r.weight; limit = r.limit; cost = r.cost; status = st }
+with_status r st = record r { status = st }
 
 -- the rows with the status of one of them replaced
 abbrev pub put : List Row → ℕ → Status → List Row

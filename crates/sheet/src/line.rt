@@ -1,61 +1,57 @@
 //! One line of a roster's text.
 
+use std::error::Error;
+use std::fmt;
+use std::num::ParseIntError;
+
 /// What a line asks for. Numbers too large for a roster's fields are cut down to the largest that fits,
 /// which the roster refuses as it would the number itself.
-#[derive(Clone, Copy)]
+// Both lines stand in `play` too: the two programs read two languages, each with its own complaint.
+#[derive(Clone, Copy, Debug, PartialEq, Eq)]
 pub enum Line {
-    /// Nothing: a blank line, or a comment.
-    Blank,
     /// `hold TICKS`
     Hold(u32),
     /// `app WEIGHT LIMIT`
-    Application(u8, u32),
-    /// Anything else.
-    Unreadable,
+    Application { weight: u8, limit: u32 },
 }
 
-pub fn read_line(text: &str) -> Line {
-    let mut words = text.split_whitespace();
-    let Some(first) = words.next() else {
-        return Line::Blank;
-    };
-    if first.starts_with('#') {
-        return Line::Blank;
-    }
-    let one = words.next();
-    let two = words.next();
-    let more = words.next();
-    match (one, two, more) {
-        (Some(ticks), None, None) => hold(first, ticks),
-        (Some(weight), Some(limit), None) => application(first, weight, limit),
-        _ => Line::Unreadable,
+/// A line that asks for neither.
+#[derive(Clone, Copy, Debug, PartialEq, Eq)]
+pub struct Unreadable;
+
+impl fmt::Display for Unreadable {
+    fn fmt<W: fmt::Write>(&self, f: &mut fmt::Formatter<W>) -> fmt::Result {
+        f.write_str("neither 'hold TICKS' nor 'app WEIGHT LIMIT'")
     }
 }
 
-fn hold(word: &str, ticks: &str) -> Line {
-    match (word, ticks.parse::<u64>()) {
-        ("hold", Ok(n)) => Line::Hold(short(n)),
-        _ => Line::Unreadable,
+impl Error for Unreadable {}
+
+impl From<ParseIntError> for Unreadable {
+    fn from(_: ParseIntError) -> Unreadable {
+        Unreadable
     }
 }
 
-fn application(word: &str, weight: &str, limit: &str) -> Line {
-    match (word, weight.parse::<u64>(), limit.parse::<u64>()) {
-        ("app", Ok(w), Ok(m)) => Line::Application(byte(w), short(m)),
-        _ => Line::Unreadable,
+impl Line {
+    /// None for a blank line and for a comment.
+    // No `FromStr`, since a blank line has no value.
+    pub fn parse(text: &str) -> Result<Option<Line>, Unreadable> {
+        let mut words = text.split_whitespace();
+        let Some(first) = words.next().filter(|word| !word.starts_with('#')) else {
+            return Ok(None);
+        };
+        match (first, words.next(), words.next(), words.next()) {
+            ("hold", Some(ticks), None, None) => Ok(Some(Line::Hold(short(ticks.parse()?)))),
+            ("app", Some(weight), Some(limit), None) => Ok(Some(Line::Application {
+                weight: u8::try_from(weight.parse::<u64>()?).unwrap_or(u8::MAX),
+                limit: short(limit.parse()?),
+            })),
+            _ => Err(Unreadable),
+        }
     }
 }
 
 fn short(n: u64) -> u32 {
-    match u32::try_from(n) {
-        Ok(x) => x,
-        Err(_) => u32::MAX,
-    }
-}
-
-fn byte(n: u64) -> u8 {
-    match u8::try_from(n) {
-        Ok(x) => x,
-        Err(_) => u8::MAX,
-    }
+    u32::try_from(n).unwrap_or(u32::MAX)
 }

@@ -4,6 +4,7 @@
 
 mod figures;
 mod line;
+mod report;
 mod sheet;
 
 fn main(rt: HostRuntime) -> anyhow::Result<()> {

@@ -1,9 +1,13 @@
 -- Every operation keeps the table sound. Assumes nothing.
-use Rattle.std.proofs.Common.{◌≡◌, ℕ, ◌+◌, ◌*◌, ◌^◌, ◌<◌, ◌≤◌, max, Bool, true, false, cond, ltb, leb, ◌⊎◌, length, get_or, set, Some, None, vec_items, Option, sym, refl, ap, ◌∙◌, subst, inl, inr, le_refl, mul-le-mul, mul-le-mul_left, arith, length-set, get_or-set_other, get_or-set_same, MatchOption}
+use Rattle.std.proofs.Common.{◌≡◌, ℕ, ◌+◌, ◌*◌, ◌^◌, ◌<◌, ◌≤◌, max, Bool, true, false, cond, ltb, leb, ◌⊎◌, length, get_or, set, Some, None, Option, sym, refl, ap, ◌∙◌, subst, inl, inr, le_refl, mul-le-mul, mul-le-mul_left, arith, length-set, get_or-set_other, get_or-set_same, MatchOption}
 use mathlib.Core.Logic.{∥∥₁_elim}
 use mathlib.Core.HLevel.{Π_prop}
 use mathlib.Core.Bool.{Bool-set}
 use native.Mathlib.Bridge.{le_prop}
+use Rattle.std.proofs.lemmas.Option.{gets, slice_get_within, get_or_from_slice_get}
+use Rattle.std.proofs.lemmas.Bool.Decides.{nat_tests}
+use Rattle.std.specs.Bool.{then_some}
+use Rattle.std.specs.List.{slice_get}
 use Rattle.std.proofs.lemmas.Bool.{cases_eq, cond_both, and_parts, ltb-true, leb-true, ne_eqb, eq-eqb, true≢false, and_from, lt-ltb}
 use Rattle.rosters.specs.Stamps.{by_status, is_idle, is_queued, is_serving, no_stamp, may_have}
 use Rattle.stamps.specs.Rows.{position, paid, wake_stamp, serve_stamp, charge_stamp, with_budget, rest_stamp, requeue_stamp}
@@ -15,8 +19,6 @@ use Rattle.least.proofs.Places.{place_means}
 use Rattle.std.proofs.lemmas.List.MinMax.{IsStrictWeakOrder-by_number}
 use Rattle.rosters.specs.declared.stamp.Status.{Status}
 use Rattle.rosters.specs.declared.stamp.Status.TheVariants.{Idle, Queued, Serving}
-use Rattle.std.specs.Vec.{with_item}
-use Rattle.stamps.specs.declared.table.StampTable.{StampTable}
 use Rattle.rosters.specs.declared.stamp.Stamp.{Stamp}
 
 modest_once : (n : ℕ) (s : Stamp) → IsProp (Modest n s)
@@ -36,10 +38,6 @@ the_sound t h = ∥∥₁_elim h (sound_once t) (λ s. s)
 -- a step that keeps a sound table sound, by what it leaves
 pub kept_by : (f : Table → Table) → ((t : Table) → Sound t → Sound (f t)) → (t new : Table) → new ≡ f t → ∥ Sound t ∥₁ → ∥ Sound new ∥₁
 kept_by f keeps t new e h = ∣ subst Sound (sym e) (keeps t (the_sound t h)) ∣₁
-
--- the table once application k has the row s, at another virtual time, with other sectors sent, and another served
-abbrev pub after : StampTable → ℕ → Stamp → ℕ → ℕ → Option ℕ → Table
-after t k s virtual sent serving = record { virtual = virtual; sent = sent; serving = serving; stamps = vec_items (with_item t.stamps k s) }
 
 -- more sectors sent leave a row modest
 later : (n n' : ℕ) (s : Stamp) → n ≤ n' → Modest n s → Modest n' s
@@ -106,6 +104,10 @@ serves_at s h = go s.status h
     go Queued h = absurd (true≢false (sym h))
     go Serving h = refl
 
+-- What the test of a budget tells.
+budget_fits : (b : ℕ) (s : Stamp) → may_have b s ≡ true → (0 < b) × (b ≤ s.limit)
+budget_fits b s h = let p = and_parts (ltb 0 b) (leb b s.limit) h in (ltb-true 0 b p.0, leb-true b s.limit p.1)
+
 -- The steps of an idle application.
 pub woken_sound : (k : ℕ) (t : Table) → Sound t → Sound (woken k t)
 woken_sound k t sound =
@@ -138,7 +140,7 @@ allotted_sound k b t sound =
     (λ can.
     let q = and_parts (can_wake k t) (may_have b (row t k)) can in
     let p = and_parts (ltb k (length t.stamps)) (is_idle (row t k)) q.0 in
-    let b_fits = and_parts (ltb 0 b) (leb b (row t k).limit) q.1 in
+    let b_fits = budget_fits b (row t k) q.1 in
     let inside = ltb-true k (length t.stamps) p.0 in
     let m = sound.each k inside in
     let s = row t k in
@@ -146,8 +148,8 @@ allotted_sound k b t sound =
     record {
       cost_high = m.cost_high;
       limit_high = m.limit_high;
-      budget_low = ltb-true 0 b b_fits.0;
-      budget_high = leb-true b s.limit b_fits.1;
+      budget_low = b_fits.0;
+      budget_high = b_fits.1;
       served_high = m.served_high;
       start_high = m.start_high;
       reached_high = m.reached_high;
@@ -158,15 +160,24 @@ allotted_sound k b t sound =
     (sound.one k inside) (λ j ne. refl) sound.within)
 
 -- an idle application's row, and the room ahead of it
-pub resting : (t : Table) → Sound t → (k : ℕ) (s : Stamp) → k < length t.stamps → row t k ≡ s → is_idle s ≡ true → Resting t k s
-resting t sound k s inside r idle =
-    let m = subst (Modest t.sent) r (sound.each k inside) in
-    record {
-      is = and_from (ltb k (length t.stamps)) (is_idle (row t k)) (lt-ltb k (length t.stamps) inside) (ap is_idle r ∙ idle);
-      inside = inside;
-      reads = r;
-      room = omega (arith, sound.pace, sound.sectors, m.reached_high, spent_high s.budget s.cost (omega (arith, m.budget_high, m.limit_high)) m.cost_high);
-    }
+module _ (t : Table) (sound : Sound t) (k : ℕ) where
+  idle_row : (s : Stamp) → slice_get t.stamps k ≡ Some s → is_idle s ≡ true → Resting t k s
+  idle_row s e idle =
+      let inside = slice_get_within t.stamps k s e in
+      let r : row t k ≡ s = get_or_from_slice_get t.stamps k s no_stamp e in
+      let m = subst (Modest t.sent) r (sound.each k inside) in
+      record {
+        is = and_from (ltb k (length t.stamps)) (is_idle (row t k)) (lt-ltb k (length t.stamps) inside) (ap is_idle r ∙ idle);
+        inside = inside;
+        reads = r;
+        room = omega (arith, sound.pace, sound.sectors, m.reached_high, spent_high s.budget s.cost (omega (arith, m.budget_high, m.limit_high)) m.cost_high);
+      }
+
+  -- the row read, kept where it is idle
+  pub resting : (read kept : Option Stamp) → read ≡ slice_get t.stamps k → MatchOption read (kept ≡ None) (λ s. kept ≡ then_some (is_idle s) s) → MatchOption kept (can_wake k t ≡ false) (Resting t k)
+  resting None kept e is = grind (arith, nat_tests, gets)
+  resting (Some s) None e is = grind (arith, nat_tests, gets)
+  resting (Some s) (Some k) e is = grind (arith, nat_tests, gets, idle_row)
 
 -- The steps of the application that serves.
 module _ (t : Table) (sound : Sound t) (k : ℕ) (e : t.serving ≡ Some k) where
@@ -211,17 +222,16 @@ module _ (t : Table) (sound : Sound t) (k : ℕ) (e : t.serving ≡ Some k) wher
       guarded t _ (may_requeue b (row t k)) sound
       (λ can.
       let p = and_parts (may_have b (row t k)) (leb (row t k).budget ((row t k).served + b)) can in
-      let q = and_parts (ltb 0 b) (leb b (row t k).limit) p.0 in
+      let b_fits = budget_fits b (row t k) p.0 in
       let m = serving_modest in
       let s = row t k in
-      let high = leb-true b s.limit q.1 in
-      let cost = spent_high b s.cost (omega (arith, high, m.limit_high)) m.cost_high in
+      let cost = spent_high b s.cost (omega (arith, b_fits.1, m.limit_high)) m.cost_high in
       let modest : Modest t.sent (requeue_stamp b s) =
       record {
         cost_high = m.cost_high;
         limit_high = m.limit_high;
-        budget_low = ltb-true 0 b q.0;
-        budget_high = high;
+        budget_low = b_fits.0;
+        budget_high = b_fits.1;
         served_high = m.served_high;
         start_high = serving_paid;
         reached_high = serving_paid;
@@ -234,15 +244,15 @@ module _ (t : Table) (sound : Sound t) (k : ℕ) (e : t.serving ≡ Some k) wher
   rested_here b =
       guarded t _ (may_have b (row t k)) sound
       (λ can.
-      let q = and_parts (ltb 0 b) (leb b (row t k).limit) can in
+      let b_fits = budget_fits b (row t k) can in
       let m = serving_modest in
       let s = row t k in
       let modest : Modest t.sent (rest_stamp b s) =
       record {
         cost_high = m.cost_high;
         limit_high = m.limit_high;
-        budget_low = ltb-true 0 b q.0;
-        budget_high = leb-true b s.limit q.1;
+        budget_low = b_fits.0;
+        budget_high = b_fits.1;
         served_high = m.served_high;
         start_high = m.start_high;
         reached_high = serving_paid;
@@ -277,26 +287,22 @@ module _ (t : Table) (sound : Sound t) (k : ℕ) (e : t.serving ≡ Some k) wher
       one_row t sound k serving_within (t.virtual + 2520 * size) (t.sent + size) (Some k) (charge_stamp size s) (omega arith) most (omega (arith, sound.pace)) modest
       (serving_is ∙ sym (eq-eqb k k refl)) (λ j ne. ap (λ o. is_application o j) e) (λ j q. let z : k ≡ j = cc in omega (arith, serving_within)))
 
-pub requeued_sound : (b : ℕ) (t : Table) → Sound t → Sound (requeued b t)
-requeued_sound b t sound = go t.serving refl
+-- a step of the application that serves, if any does
+by_serving : (f : Option ℕ → Table) (t : Table) → Sound (f None) → ((k : ℕ) → t.serving ≡ Some k → Sound (f (Some k))) → Sound (f t.serving)
+by_serving f t none some = go t.serving refl
   where
-    go : (o : Option ℕ) → t.serving ≡ o → Sound (requeued_from o b t)
-    go None e = sound
-    go (Some k) e = requeued_here t sound k e b
+    go : (o : Option ℕ) → t.serving ≡ o → Sound (f o)
+    go None e = none
+    go (Some k) e = some k e
+
+pub requeued_sound : (b : ℕ) (t : Table) → Sound t → Sound (requeued b t)
+requeued_sound b t sound = by_serving (λ o. requeued_from o b t) t sound (λ k e. requeued_here t sound k e b)
 
 pub rested_sound : (b : ℕ) (t : Table) → Sound t → Sound (rested b t)
-rested_sound b t sound = go t.serving refl
-  where
-    go : (o : Option ℕ) → t.serving ≡ o → Sound (rested_from o b t)
-    go None e = sound
-    go (Some k) e = rested_here t sound k e b
+rested_sound b t sound = by_serving (λ o. rested_from o b t) t sound (λ k e. rested_here t sound k e b)
 
 pub charged_sound : (size : ℕ) (t : Table) → Sound t → Sound (charged size t)
-charged_sound size t sound = go t.serving refl
-  where
-    go : (o : Option ℕ) → t.serving ≡ o → Sound (charged_to o size t)
-    go None e = sound
-    go (Some k) e = charged_here t sound k e size
+charged_sound size t sound = by_serving (λ o. charged_to o size t) t sound (λ k e. charged_here t sound k e size)
 
 -- The pick.
 module _ (t : Table) (sound : Sound t) where

@@ -1,6 +1,7 @@
 //! What each operation makes of an application's row.
+// Functions and no methods: the row is the roster's type, and a trait round its methods would say no more.
 
-ghost use Rattle.std.specs.Prelude.{◌≡◌, ◌+◌, ◌*◌, ◌^◌, ◌<◌, ◌≤◌, max, nat_le};
+ghost use Rattle.std.specs.Prelude.{◌≡◌, ◌+◌, ◌*◌, ◌^◌, ◌<◌, ◌≤◌, max};
 ghost use Rattle.stamps.specs.Rows.{paid, queued_at, wake_stamp, serve_stamp, charge_stamp, with_budget, rest_stamp, requeue_stamp, moved};
 ghost use Rattle.stamps.specs.Steps.{may_requeue};
 
@@ -93,14 +94,6 @@ pub(crate) fn requeued(stamp: Stamp, budget: u32) -> Stamp
 {
     let rested = rested(stamp, budget);
     queued_at(rested, rested.reached)
-}
-
-/// Whether its budget reaches for so many sectors more.
-pub(crate) fn reaches(stamp: &Stamp, size: u16) -> bool
-    requires { stamp.now.served + size < 2 ^ 32 }
-    ensures { result ≡ nat_le (stamp.now.served + size) stamp.now.budget }
-{
-    stamp.served + u32::from(size) <= stamp.budget
 }
 
 /// Whether it may be queued again with this budget, and does not finish earlier by it.

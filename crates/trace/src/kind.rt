@@ -1,3 +1,3 @@
-//! Whether an application waits for a request's end before it asks for more.
+//! The kind of a request, which is that of the pools.
 
 pub use records::kind::Kind;

@@ -1,31 +1,38 @@
--- Behind the last element nothing is chosen; once the first is passed, the choice is that of the whole list.
-use Rattle.std.proofs.Common.{◌≡◌, ◌+◌, ◌-◌, ◌<◌, length, sym, ap, ◌∙◌, subst, arith, MatchOption}
-use Rattle.least.specs.Choice.{FirstLeast, NoneEligible, place, chosen_from}
-use Rattle.least.proofs.Places.{from_end, from_start, place_means, chosen_within, turned}
+-- Each turn leads on; what is held in the end is the choice among all.
+use Rattle.std.proofs.Common.{◌≡◌, ◌∙◌, sym, subst, rules, refl, MatchOption}
+use Rattle.std.specs.Option.{option_map}
+use Rattle.least.specs.Choice.{FirstLeast, NoneEligible}
+use Rattle.least.proofs.Places.{place_means}
+use Rattle.least.proofs.Search.{passes, takes, keeps, ends}
 use Rattle.least.proofs.first_least.Goals as goal
+use Rattle.least.proofs.first_least.Goals.{then-is_eligible+then-is_none_or, else-is_eligible, else-is_eligible-via-then-is_eligible+else-is_none_or, else-is_eligible-via-else-is_eligible}
 
-pub loop-i-init : goal.loop-i-init
-loop-i-init g c = from_end (g.Q.Query.eligible c.args.query.now) (g.Q.Query.before c.args.query.now) c.args.items.now
+pub loop-place-preserved : goal.loop-place-preserved
+loop-place-preserved g c =
+    let eligible = g.Q.Query.eligible c.args.query.now in
+    let before = g.Q.Query.before c.args.query.now in
+    let ranks = g.met.Q.Query.ranks c.args.query.now in
+    let xs = c.args.items.now in
+    let held = c.loop-place.least in
+    let m = c.loop-place.place in
+    let y = c.index-items-place.result in
+    elim c.if-is_eligible.branch [
+      | then-is_eligible+then-is_none_or w ↦
+          takes eligible before ranks xs held _ m y c.loop-place.invariant c.loop-place-test.true c.index-items-place.is _ refl w.least-is (search rules) (search rules)
+      | else-is_eligible w ↦ elim w.else-is_eligible.branch [
+        | else-is_eligible-via-then-is_eligible+else-is_none_or w' ↦
+            keeps eligible before ranks xs held _ m y c.loop-place.invariant c.loop-place-test.true c.index-items-place.is w.least-is (search rules) (search rules)
+        | else-is_eligible-via-else-is_eligible w' ↦
+            passes eligible before ranks xs held _ m y c.loop-place.invariant c.loop-place-test.true c.index-items-place.is w.least-is (search rules)
+      ]
+    ]
 
 pub returns : goal.returns
 returns g c =
     let eligible = g.Q.Query.eligible c.args.query.now in
     let before = g.Q.Query.before c.args.query.now in
+    let ranks = g.met.Q.Query.ranks c.args.query.now in
     let xs = c.args.items.now in
-    let end : c.loop-i.i ≡ 0 = omega arith in
-    let is : c.loop-i.best ≡ place eligible before xs = c.loop-i.invariant ∙ ap (chosen_from eligible before xs) end ∙ from_start eligible before xs in
-    record { place = is; meaning = subst (λ o. MatchOption o (NoneEligible eligible xs) (FirstLeast eligible before xs)) (sym is) (place_means eligible before (g.met.Q.Query.ranks c.args.query.now) xs) }
-
-pub better-best-requires : goal.better-best-requires
-better-best-requires g c =
-    record { within = omega arith; inside = chosen_within (g.Q.Query.eligible c.args.query.now) (g.Q.Query.before c.args.query.now) c.args.items.now c.loop-i.i c.loop-i.best c.loop-i.invariant }
-
-pub loop-i-preserved : goal.loop-i-preserved
-loop-i-preserved g c =
-    let eligible = g.Q.Query.eligible c.args.query.now in
-    let before = g.Q.Query.before c.args.query.now in
-    let xs = c.args.items.now in
-    let i = c.loop-i.i - 1 in
-    let h : i < length xs = omega arith in
-    let step : c.loop-i.i ≡ i + 1 = omega arith in
-    turned eligible before xs i c.loop-i.best c.better-best.result h (c.loop-i.invariant ∙ ap (chosen_from eligible before xs) step) c.better-best.ensures
+    let held : c.map.result ≡ option_map (λ p. p.0) c.loop-place.least = search rules in
+    let is = held ∙ ends eligible before ranks xs c.loop-place.least c.loop-place.place c.loop-place.invariant c.loop-place-test.false in
+    record { place = is; meaning = subst (λ o. MatchOption o (NoneEligible eligible xs) (FirstLeast eligible before xs)) (sym is) (place_means eligible before ranks xs) }

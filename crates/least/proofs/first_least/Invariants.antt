@@ -1,6 +1,5 @@
-use Rattle.std.proofs.Common.{◌≡◌}
-use Rattle.least.specs.Choice.{chosen_from}
+use Rattle.least.proofs.Search.{Leads}
 use Rattle.least.proofs.first_least.Given as goal
 
-abbrev pub invariant-loop-i : goal.invariant-loop-i
-invariant-loop-i g l = l.best ≡ chosen_from (g.Q.Query.eligible l.query) (g.Q.Query.before l.query) l.items l.i
+abbrev pub invariant-loop-place : goal.invariant-loop-place
+invariant-loop-place g l = Leads (g.Q.Query.eligible l.query) (g.Q.Query.before l.query) l.items l.least l.place

@@ -21,7 +21,7 @@ impl Line {
     pub(crate) fn requests(&self) -> &[Request]
         ensures { result.now ≡ waiting self.now }
     {
-        self.requests.as_slice()
+        &self.requests
     }
 
     pub(crate) fn clear(&mut self)
@@ -47,9 +47,7 @@ impl Line {
         ensures answer { result ≡ slice_get (waiting self.old) place }
         ensures after { waiting self.new ≡ remove (waiting self.old) place }
     {
-        if place >= self.requests.len() {
-            return None;
-        }
+        self.requests.get(place)?;
         Some(self.requests.remove(place))
     }
 }

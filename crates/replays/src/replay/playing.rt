@@ -1,59 +1,47 @@
-//! The events of a trace, played on a scheduler and listed.
+//! The events of a workload, played on a scheduler and listed.
 
 ghost use Rattle.std.specs.Prelude.{◌≡◌, ℕ, ◌*◌, ◌<◌, ◌≤◌, length, slice_index};
-ghost use Rattle.trace.specs.View.{tables_of};
 ghost use Rattle.listing.specs.Near.{StaysNear};
-ghost use Rattle.driver.specs.Runs.{Holding, history, none_held};
+ghost use Rattle.driver.specs.Runs.{history};
 ghost use Rattle.fields.specs.Buffers.{put};
 ghost use Rattle.histories.specs.History.{sent_for};
 ghost use Rattle.replays.specs.Asked.{commands};
 ghost use Rattle.replays.specs.Listings.{event_lines};
 
-use crate::replay::commands::command_at;
 use crate::replay::shares::credit;
-use driver::turn::{Turn, step};
+use crate::replay::workload::Workload;
+use driver::session::Session;
 use listing::lines::{event_line_is_short, put_event};
 use scheduler::calls::Calls;
-use scheduler::token::Token;
-use trace::trace::Trace;
 
-/// Where the lines of the events end, and the token that is held after the last of them.
+/// Where the lines of the events end, and the sectors that were sent for each application.
 pub(crate) struct Played {
     pub(crate) end: usize,
-    pub(crate) token: Option<Token>,
+    pub(crate) sent: [u64; 16],
 }
 
-/// Makes a call for each event of the trace and puts its line, from the buffer's beginning on; adds up
-/// the sectors that are sent for each application.
+/// Makes a call for each event of the workload and puts its line, from the buffer's beginning on. These are
+/// at most 960 lines of 64 bytes.
 pub(crate) fn play<S: Calls>(
-    scheduler: &mut S,
-    trace: &Trace,
+    session: &mut Session<S>,
+    workload: &Workload,
     out: &mut [u8],
-    sent: &mut [u64],
 ) -> Played
-    requires free { Holding (S.Calls.state scheduler.old) none_held }
-    requires near { StaysNear S.Calls.choice S.Calls.next (S.Calls.state scheduler.old) }
-    requires few { length (commands (tables_of trace.now)) ≤ 960 }
-    requires room { 64 * length (commands (tables_of trace.now)) ≤ length out.old }
-    requires blank { (k : ℕ) → slice_index sent.old k ≡ 0 }
-    ensures end { result.end ≡ length (event_lines S.Calls.choice S.Calls.next (commands (tables_of trace.now)) (S.Calls.state scheduler.old)) }
-    ensures most { result.end ≤ 64 * length (commands (tables_of trace.now)) }
-    ensures after { out.new ≡ put 0 (event_lines S.Calls.choice S.Calls.next (commands (tables_of trace.now)) (S.Calls.state scheduler.old)) out.old }
-    ensures sums { (k : ℕ) → k < length sent.old → slice_index sent.new k ≡ sent_for k (history S.Calls.choice S.Calls.next (commands (tables_of trace.now)) (S.Calls.state scheduler.old)) }
-    ensures holding { Holding (S.Calls.state scheduler.new) result.token }
+    requires near { StaysNear S.Calls.choice S.Calls.next session.old }
+    requires room { 61440 ≤ length out.old }
+    ensures end { result.end ≡ length (event_lines S.Calls.choice S.Calls.next (commands workload.now) session.old) }
+    ensures most { result.end ≤ 61440 }
+    ensures after { out.new ≡ put 0 (event_lines S.Calls.choice S.Calls.next (commands workload.now) session.old) out.old }
+    ensures sums { (k : ℕ) → k < 16 → slice_index result.sent k ≡ sent_for k (history S.Calls.choice S.Calls.next (commands workload.now) session.old) }
 {
-    let mut token: Option<Token> = None;
+    let mut sent = [0; 16];
     let mut end = 0;
-    for i in 0..trace.event_count() {
-        let command = command_at(trace, i);
-        let Turn {
-            outcome,
-            token: held,
-        } = step(scheduler, command, token);
-        token = held;
+    for event in workload.events() {
+        let command = workload.command(event);
+        let outcome = session.step(command);
         event_line_is_short(command, outcome);
         end = put_event(out, end, command, outcome);
-        credit(sent, outcome);
+        credit(&mut sent, outcome);
     }
-    Played { end, token }
+    Played { end, sent }
 }

@@ -6,19 +6,21 @@ ghost use Rattle.std.specs.List.{slice_get};
 ghost use Rattle.rosters.specs.Rosters.{line_up, fresh, added, add_answer, held, hold_answer, total_weight, weights, largest_limit, largest};
 
 use crate::application::Application;
-use crate::ranges::{has_room, is_hold, is_limit, is_weight};
+use crate::ranges::{is_hold, is_limit, is_weight};
 use crate::refusal::Refusal;
 use crate::roster::Roster;
 use crate::stamp::Stamp;
 use std::alloc::{AllocError, Global};
+
+const MOST_APPLICATIONS: usize = 16;
 
 impl Roster {
     /// A roster of application 0 alone, of weight 1 and limit 256, with a hold of 8 ticks.
     pub fn new(heap: Global) -> Result<Roster, AllocError>
         ensures { IfOk result (λ x. line_up x ≡ fresh) }
     {
-        let mut applications = Vec::with_capacity(heap, 16)?;
-        let stamps = Vec::with_capacity(heap, 16)?;
+        let mut applications = Vec::with_capacity(heap, MOST_APPLICATIONS)?;
+        let stamps = Vec::with_capacity(heap, MOST_APPLICATIONS)?;
         applications.push_reserved(Application {
             weight: 1,
             limit: 256,
@@ -36,7 +38,7 @@ impl Roster {
         ensures after { line_up self.new ≡ added weight limit (line_up self.old) }
     {
         let number = self.applications.len();
-        if !has_room(number) {
+        if number >= MOST_APPLICATIONS {
             return Err(Refusal::Full);
         }
         if !is_weight(weight) {
@@ -73,10 +75,7 @@ impl Roster {
     pub fn application(&self, number: usize) -> Option<Application>
         ensures { result ≡ slice_get (line_up self.now).applications number }
     {
-        if number >= self.applications.len() {
-            return None;
-        }
-        Some(self.applications[number])
+        self.applications.get(number).copied()
     }
 
     /// How many ticks the disk is held for.
@@ -90,14 +89,14 @@ impl Roster {
     pub fn total_weight(&self) -> u32
         ensures { result ≡ total_weight (line_up self.now) }
     {
-        sum_of_weights(self.applications.as_slice())
+        self.applications.iter().map(|a| u32::from(a.weight)).sum()
     }
 
     /// M: the largest limit.
     pub fn largest_limit(&self) -> u32
         ensures { result ≡ largest_limit (line_up self.now) }
     {
-        most_of_limits(self.applications.as_slice())
+        self.applications.iter().map(|a| a.limit).max().unwrap_or(0)
     }
 
     /// The rows of a stamp table for these applications. The roster is used up.
@@ -110,30 +109,9 @@ impl Roster {
             mut stamps,
             hold: _,
         } = self;
-        for a in applications.iter() {
+        for a in &applications {
             stamps.push_reserved(Stamp::new(total_weight, *a));
         }
         stamps
     }
-}
-
-fn sum_of_weights(applications: &[Application]) -> u32
-    requires { length applications.now ≤ 16 }
-    ensures { result ≡ weights applications.now }
-{
-    let mut total: u32 = 0;
-    for a in applications {
-        total += u32::from(a.weight);
-    }
-    total
-}
-
-fn most_of_limits(applications: &[Application]) -> u32
-    ensures { result ≡ largest applications.now }
-{
-    let mut most: u32 = 0;
-    for a in applications {
-        most = most.max(a.limit);
-    }
-    most
 }

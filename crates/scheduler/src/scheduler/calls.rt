@@ -3,10 +3,9 @@
 ghost use Rattle.std.specs.Prelude.{◌≡◌, ◌+◌, ◌^◌, ◌≤◌};
 ghost use Rattle.machine.specs.Calls.{joined};
 ghost use Rattle.scheduler.specs.Answers.{said};
-ghost use Rattle.scheduler.specs.View.{machine, means};
+ghost use Rattle.scheduler.specs.View.{means};
 
 use crate::calls::Calls;
-use crate::reply::Reply;
 use crate::scheduler::Scheduler;
 use crate::token::{Dispatched, Returned, Token};
 use machine::event::Event;
@@ -16,13 +15,17 @@ use pools::request::{Kind, Request};
 use pools::rule::BudgetRule;
 
 impl<P: Pool, R: BudgetRule> Calls for Scheduler<P, R> {
-    ghost state = { λ s. machine P.Pool.lists s };
+    ghost state = { λ s. s };
 
-    ghost choice = { P.Pool.choice };
+    ghost choice = { P.choice };
 
-    ghost next = { R.BudgetRule.next_budget };
+    ghost next = { R.next_budget };
 
-    fn clock(&self) -> u64 {
+    // With the bound too, since whoever sees a machine alone does not know it.
+    fn clock(&self) -> u64
+        ensures answer { result ≡ self.now.clock }
+        ensures early { result ≤ 2 ^ 40 }
+    {
         self.desk.clock
     }
 
@@ -34,54 +37,41 @@ impl<P: Pool, R: BudgetRule> Calls for Scheduler<P, R> {
         size: u16,
         kind: Kind,
     ) -> Result<u64, Refusal> {
-        if let Some(refusal) = self.refuse_arrival(time, application, first, size) {
-            return Err(refusal);
-        }
-        let number = self.desk.count + 1;
         let request = Request {
-            number,
+            number: self.desk.count + 1,
             application,
             first,
             size,
             kind,
         };
+        self.judge_arrival(time, request)?;
         self.begin(time);
         self.join(request);
         let _ = self.react(application, Event::Arrival);
-        Ok(number)
+        Ok(request.number)
     }
 
-    fn dispatch(&mut self, time: u64) -> Result<Dispatched, Refusal> {
-        if let Some(refusal) = self.refuse_dispatch(time) {
-            return Err(refusal);
-        }
+    fn dispatch(&mut self, time: u64) -> Result<Dispatched<Token>, Refusal> {
+        self.judge_dispatch(time)?;
         self.begin(time);
         let k = self.subject();
         Ok(handed_out(self.react(k, Event::Dispatch)))
     }
 
     fn completion(&mut self, time: u64, token: Token) -> Result<u64, Returned> {
-        if let Some(refusal) = self.refuse_completion(time, &token) {
+        if let Err(refusal) = self.judge_completion(time, &token) {
             return Err(Returned { refusal, token });
         }
-        let Token {
-            number,
-            application: _,
-            first: _,
-            size: _,
-            kind,
-        } = token;
+        let Token { request } = token;
         self.begin(time);
         self.desk.flight = None;
         let k = self.subject();
-        let _ = self.react(k, Event::Completion(kind));
-        Ok(number)
+        let _ = self.react(k, Event::Completion(request.kind));
+        Ok(request.number)
     }
 
     fn tick(&mut self, time: u64) -> Result<(), Refusal> {
-        if let Some(refusal) = self.refuse_tick(time) {
-            return Err(refusal);
-        }
+        self.judge_tick(time)?;
         self.begin(time);
         let k = self.subject();
         let _ = self.react(k, Event::Tick);
@@ -93,39 +83,23 @@ impl<P: Pool, R: BudgetRule> Scheduler<P, R> {
     /// An accepted request waits.
     fn join(&mut self, request: Request)
         requires size { 1 ≤ request.size }
-        requires room { self.old.desk.total + request.size ≤ 2 ^ 40 }
-        ensures { machine P.Pool.lists self.new ≡ joined request (machine P.Pool.lists self.old) }
+        requires room { self.old.total + request.size ≤ 2 ^ 40 }
+        ensures { self.new ≡ joined request self.old }
     {
         let _ = self.pool.put(request);
-        let count = self.desk.count + 1;
-        let total = self.desk.total + u64::from(request.size);
-        self.desk.total = total;
-        self.desk.count = count;
+        self.desk.total += u64::from(request.size);
+        self.desk.count += 1;
     }
 }
 
 /// A token is made for the request that is sent.
-fn handed_out(reply: Reply) -> Dispatched
+// A private function and no `From`, by which a caller could make a token of any request.
+fn handed_out(reply: Dispatched<Request>) -> Dispatched<Token>
     ensures { said result ≡ means reply }
 {
     match reply {
-        Reply::Send(request) => {
-            let Request {
-                number,
-                application,
-                first,
-                size,
-                kind,
-            } = request;
-            Dispatched::Send(Token {
-                number,
-                application,
-                first,
-                size,
-                kind,
-            })
-        }
-        Reply::Hold(application, until) => Dispatched::Hold { application, until },
-        Reply::Nothing => Dispatched::None,
+        Dispatched::Send(request) => Dispatched::Send(Token { request }),
+        Dispatched::Hold { application, until } => Dispatched::Hold { application, until },
+        Dispatched::None => Dispatched::None,
     }
 }

@@ -2,11 +2,11 @@
 
 ghost use Rattle.std.specs.Prelude.{◌≡◌, ◌^◌, ◌≤◌};
 ghost use Rattle.machine.specs.Machine.{begun, finished, next_of, picking, picking_reply, reacted, retired, sent, served_by, served_reply, subject};
-ghost use Rattle.scheduler.specs.View.{Same, heard, machine, means};
+ghost use Rattle.scheduler.specs.View.{Same, heard, means};
 ghost use Rattle.stamps.specs.Tables.{row};
 
-use crate::reply::Reply;
 use crate::scheduler::Scheduler;
+use crate::token::Dispatched;
 use machine::event::Event;
 use pools::pool::Pool;
 use pools::request::{Kind, Request};
@@ -17,27 +17,21 @@ impl<P: Pool, R: BudgetRule> Scheduler<P, R> {
     /// The first step of an accepted call: the clock is set, and a hold that has run out ends the turn.
     pub(crate) fn begin(&mut self, time: u64)
         requires { time ≤ 2 ^ 40 }
-        ensures same { Same self.old.desk self.new.desk }
-        ensures after { machine P.Pool.lists self.new ≡ begun P.Pool.choice R.BudgetRule.next_budget time (machine P.Pool.lists self.old) }
+        ensures same { Same self.old self.new }
+        ensures after { self.new ≡ begun P.choice R.next_budget time self.old }
     {
         self.desk.clock = time;
-        let Some(until) = self.desk.until else {
-            return;
-        };
-        if until > time {
-            return;
+        match (self.desk.until, self.table.serving()) {
+            (Some(until), Some(k)) if until <= time => self.retire(k as u8, Reason::HoldRanOut),
+            _ => {}
         }
-        let Some(k) = self.table.serving() else {
-            return;
-        };
-        self.retire(k as u8, Reason::HoldRanOut);
     }
 
     /// The turn of application `k` is over: it gets its next budget, and is queued again if anything of
     /// it waits.
     fn retire(&mut self, k: u8, why: Reason)
-        ensures same { Same self.old.desk self.new.desk }
-        ensures after { machine P.Pool.lists self.new ≡ retired P.Pool.choice R.BudgetRule.next_budget why k (machine P.Pool.lists self.old) }
+        ensures same { Same self.old self.new }
+        ensures after { self.new ≡ retired P.choice R.next_budget why k self.old }
     {
         let stamp = self.table.row(usize::from(k));
         let budget = self.rule.next(stamp.limit, stamp.budget, stamp.served, why);
@@ -51,7 +45,7 @@ impl<P: Pool, R: BudgetRule> Scheduler<P, R> {
 
     /// The request goes to the disk.
     fn send(&mut self, k: u8, request: Request)
-        ensures { machine P.Pool.lists self.new ≡ sent P.Pool.choice R.BudgetRule.next_budget k request (machine P.Pool.lists self.old) }
+        ensures { self.new ≡ sent P.choice R.next_budget k request self.old }
     {
         let _ = self.table.send(request.size);
         let _ = self.pool.take(k, self.desk.head);
@@ -60,32 +54,36 @@ impl<P: Pool, R: BudgetRule> Scheduler<P, R> {
     }
 
     /// Nobody serves: the application that is picked sends.
-    fn pick(&mut self) -> Reply
-        ensures answer { means result ≡ picking_reply P.Pool.choice R.BudgetRule.next_budget (machine P.Pool.lists self.old) }
-        ensures after { machine P.Pool.lists self.new ≡ picking P.Pool.choice R.BudgetRule.next_budget (machine P.Pool.lists self.old) }
+    fn pick(&mut self) -> Dispatched<Request>
+        ensures answer { means result ≡ picking_reply P.choice R.next_budget self.old }
+        ensures after { self.new ≡ picking P.choice R.next_budget self.old }
     {
         let Some(k) = self.table.pick() else {
-            return Reply::Nothing;
+            return Dispatched::None;
         };
         let Some(request) = self.pool.show(k as u8, self.desk.head) else {
-            return Reply::Nothing;
+            return Dispatched::None;
         };
         self.send(k as u8, request);
-        Reply::Send(request)
+        Dispatched::Send(request)
     }
 
     /// A dispatch while `k` serves.
-    fn serve(&mut self, k: u8) -> Reply
-        ensures answer { means result ≡ served_reply P.Pool.choice R.BudgetRule.next_budget k (next_of P.Pool.choice R.BudgetRule.next_budget k (machine P.Pool.lists self.old)) (machine P.Pool.lists self.old) }
-        ensures after { machine P.Pool.lists self.new ≡ served_by P.Pool.choice R.BudgetRule.next_budget k (next_of P.Pool.choice R.BudgetRule.next_budget k (machine P.Pool.lists self.old)) (machine P.Pool.lists self.old) }
+    fn serve(&mut self, k: u8) -> Dispatched<Request>
+        ensures answer { means result ≡ served_reply P.choice R.next_budget k (next_of P.choice R.next_budget k self.old) self.old }
+        ensures after { self.new ≡ served_by P.choice R.next_budget k (next_of P.choice R.next_budget k self.old) self.old }
     {
         let Some(request) = self.pool.show(k, self.desk.head) else {
-            return Reply::Hold(k, self.desk.until.unwrap_or(0));
+            // The rules say 0 where no hold is set; a dispatch that comes here finds one.
+            return Dispatched::Hold {
+                application: k,
+                until: self.desk.until.unwrap_or(0),
+            };
         };
         let stamp = self.table.row(usize::from(k));
-        if u64::from(stamp.served) + u64::from(request.size) <= u64::from(stamp.budget) {
+        if stamp.reaches(request.size) {
             self.send(k, request);
-            return Reply::Send(request);
+            return Dispatched::Send(request);
         }
         self.retire(k, Reason::Exhausted);
         self.pick()
@@ -94,7 +92,7 @@ impl<P: Pool, R: BudgetRule> Scheduler<P, R> {
     /// A completion while `k` serves: if nothing of it waits, the disk is held for it after a synchronous
     /// request, and its turn is over after an asynchronous one.
     fn finish(&mut self, k: u8, kind: Kind)
-        ensures { machine P.Pool.lists self.new ≡ finished P.Pool.choice R.BudgetRule.next_budget k kind (machine P.Pool.lists self.old) }
+        ensures { self.new ≡ finished P.choice R.next_budget k kind self.old }
     {
         if self.pool.count(k) > 0 {
             return;
@@ -109,43 +107,31 @@ impl<P: Pool, R: BudgetRule> Scheduler<P, R> {
 
     /// What an event does to application `k`, by its status. A dispatch that finds it not serving finds
     /// nobody serving.
-    pub(crate) fn react(&mut self, k: u8, event: Event) -> Reply
-        ensures answer { means result ≡ heard P.Pool.choice R.BudgetRule.next_budget (row (machine P.Pool.lists self.old).table k).status event k (machine P.Pool.lists self.old) }
-        ensures after { machine P.Pool.lists self.new ≡ reacted P.Pool.choice R.BudgetRule.next_budget (row (machine P.Pool.lists self.old).table k).status event k (machine P.Pool.lists self.old) }
+    pub(crate) fn react(&mut self, k: u8, event: Event) -> Dispatched<Request>
+        ensures answer { means result ≡ heard P.choice R.next_budget (row self.old.table k).status event k self.old }
+        ensures after { self.new ≡ reacted P.choice R.next_budget (row self.old.table k).status event k self.old }
     {
         let stamp = self.table.row(usize::from(k));
+        // One match and no closures: the twelve cases of status and event stand side by side, as the rules have them.
         match (stamp.status, event) {
             (Status::Idle, Event::Arrival) => {
                 let _ = self.table.wake(usize::from(k));
-                Reply::Nothing
             }
-            (Status::Queued, Event::Arrival) => Reply::Nothing,
-            (Status::Serving, Event::Arrival) => {
-                self.desk.until = None;
-                Reply::Nothing
-            }
-            (Status::Idle, Event::Dispatch) => self.pick(),
-            (Status::Queued, Event::Dispatch) => self.pick(),
-            (Status::Serving, Event::Dispatch) => self.serve(k),
-            (Status::Idle, Event::Completion(_)) => Reply::Nothing,
-            (Status::Queued, Event::Completion(_)) => Reply::Nothing,
-            (Status::Serving, Event::Completion(kind)) => {
-                self.finish(k, kind);
-                Reply::Nothing
-            }
-            (Status::Idle, Event::Tick) => Reply::Nothing,
-            (Status::Queued, Event::Tick) => Reply::Nothing,
-            (Status::Serving, Event::Tick) => Reply::Nothing,
+            (Status::Serving, Event::Arrival) => self.desk.until = None,
+            (Status::Serving, Event::Completion(kind)) => self.finish(k, kind),
+            (Status::Serving, Event::Dispatch) => return self.serve(k),
+            (Status::Idle | Status::Queued, Event::Dispatch) => return self.pick(),
+            (Status::Queued, Event::Arrival)
+            | (Status::Idle | Status::Queued, Event::Completion(_))
+            | (_, Event::Tick) => {}
         }
+        Dispatched::None
     }
 
     /// Who sees a dispatch, a completion or a tick: the application that serves, or 0 where nobody does.
     pub(crate) fn subject(&self) -> u8
-        ensures { result ≡ subject (machine P.Pool.lists self.now) }
+        ensures { result ≡ subject self.now }
     {
-        match self.table.serving() {
-            None => 0,
-            Some(k) => k as u8,
-        }
+        self.table.serving().map_or(0, |k| k as u8)
     }
 }

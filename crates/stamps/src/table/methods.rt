@@ -1,4 +1,5 @@
 //! The operations of the stamp table. One that is out of place changes nothing, and answers so.
+// A bool and no Result: it is the very test that the contract names, and callers have shown it before they call.
 
 ghost use Rattle.std.specs.Prelude.{◌≡◌, ◌<◌, false, length, IfSome, None, MatchOption};
 ghost use Rattle.std.specs.List.{slice_get};
@@ -9,9 +10,7 @@ ghost use Rattle.stamps.specs.Tables.{row};
 ghost use Rattle.stamps.specs.View.{table};
 
 use crate::queries::{ByFinish, ByStart};
-use crate::rows::{
-    charged, may_requeue, moved, reaches, requeued, rested, serving, with_budget, woken,
-};
+use crate::rows::{charged, may_requeue, moved, requeued, rested, serving, with_budget, woken};
 use crate::table::StampTable;
 use least::first_least;
 use rosters::roster::Roster;
@@ -44,20 +43,15 @@ impl StampTable {
     pub fn stamp(&self, application: usize) -> Option<Stamp>
         ensures { result ≡ slice_get (table self.now).stamps application }
     {
-        if application >= self.stamps.len() {
-            return None;
-        }
-        Some(self.stamps[application])
+        self.stamps.get(application).copied()
     }
 
     /// The row of that application; a row of zeros if there is none.
+    // Not left to callers as an Option: they ask for rows that are there, and would each unwrap it.
     pub fn row(&self, application: usize) -> Stamp
         ensures { result ≡ row (table self.now) application }
     {
-        if application >= self.stamps.len() {
-            return Stamp::NONE;
-        }
-        self.stamps[application]
+        self.stamp(application).unwrap_or(Stamp::NONE)
     }
 
     /// The application that is served, if one is.
@@ -109,13 +103,11 @@ impl StampTable {
         ensures small { IfSome result (λ k. k < 16) }
         ensures after { table self.new ≡ picked (table self.old) }
     {
-        if let Some(_) = self.serving {
+        if self.serving.is_some() {
             return None;
         }
         let virtual_time = self.pick_time();
-        let Some((k, stamp)) = self.eligible(virtual_time) else {
-            return None;
-        };
+        let (k, stamp) = self.eligible(virtual_time)?;
         self.stamps[k] = serving(stamp);
         self.virtual_time = virtual_time;
         self.serving = Some(k);
@@ -131,7 +123,7 @@ impl StampTable {
             return false;
         };
         let sent = self.sent + u64::from(size);
-        if !reaches(&stamp, size) || sent > MOST_SECTORS {
+        if !stamp.reaches(size) || sent > MOST_SECTORS {
             return false;
         }
         self.stamps[k] = charged(stamp, size);
@@ -177,44 +169,30 @@ impl StampTable {
     fn resting(&self, application: usize) -> Option<Stamp>
         ensures { MatchOption result (can_wake application (table self.now) ≡ false) (Resting (table self.now) application) }
     {
-        if application >= self.stamps.len() {
-            return None;
-        }
-        let stamp = self.stamps[application];
-        if !stamp.is_idle() {
-            return None;
-        }
-        Some(stamp)
+        self.stamp(application).filter(Stamp::is_idle)
     }
 
     /// Who is served, with its row.
     fn current(&self) -> Option<(usize, Stamp)>
         ensures { MatchOption result ((table self.now).serving ≡ None) (λ p. Current (table self.now) p.0 p.1) }
     {
-        match self.serving {
-            None => None,
-            Some(k) => Some((k, self.stamps[k])),
-        }
+        let k = self.serving?;
+        Some((k, self.stamps[k]))
     }
 
     /// Of the queued that have started by a virtual time the one of the least finish, with its row.
     fn eligible(&self, virtual_time: u64) -> Option<(usize, Stamp)>
         ensures { MatchOption result (finishing virtual_time (table self.now) ≡ None) (λ p. Finishing (table self.now) virtual_time p.0 p.1) }
     {
-        let query = ByFinish { virtual_time };
-        match first_least(&query, self.stamps.as_slice()) {
-            None => None,
-            Some(k) => Some((k, self.stamps[k])),
-        }
+        let k = first_least(&ByFinish { virtual_time }, &self.stamps)?;
+        Some((k, self.stamps[k]))
     }
 
     /// Virtual time, pushed up to the least start of the queued.
     fn pick_time(&self) -> u64
         ensures { result ≡ pick_time (table self.now) }
     {
-        match first_least(&ByStart, self.stamps.as_slice()) {
-            None => self.virtual_time,
-            Some(k) => self.virtual_time.max(self.stamps[k].start),
-        }
+        let start = first_least(&ByStart, &self.stamps).map_or(0, |k| self.stamps[k].start);
+        self.virtual_time.max(start)
     }
 }

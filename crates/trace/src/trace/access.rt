@@ -7,91 +7,77 @@ ghost use Rattle.trace.specs.View.{parts_of, tables_of};
 use crate::parts::{Body, Placed};
 use crate::tables::{ApplicationRecord, EventRecord, RequestRecord, Settings};
 use crate::trace::Trace;
+use records::record::Record;
 
 impl<'a> Trace<'a> {
     pub fn settings(&self) -> Settings
         ensures { result ≡ (tables_of self.now).settings }
     {
-        self.settings
+        Settings::of(self.split.settings)
     }
 
     pub fn settings_body(&self) -> Body<'a>
         ensures { part_of result ≡ (parts_of self.now).settings_body }
     {
-        self.settings_body
+        let bytes = self.split.settings;
+        Body { offset: 32, bytes }
     }
 
     pub fn applications(&self) -> Body<'a>
         ensures { part_of result ≡ (parts_of self.now).applications }
     {
-        self.applications
+        self.split.applications
     }
 
     pub fn requests(&self) -> Body<'a>
         ensures { part_of result ≡ (parts_of self.now).requests }
     {
-        self.requests
+        self.split.requests
     }
 
     pub fn events(&self) -> Body<'a>
         ensures { part_of result ≡ (parts_of self.now).events }
     {
-        self.events
+        self.split.events
     }
+
+    // A name for each kind, of one line: a caller need not say a width, and cannot take the wrong one.
 
     /// How many application records there are: the applications are numbered up to that.
     pub fn application_count(&self) -> usize
         ensures { result ≡ length (tables_of self.now).applications }
     {
-        self.applications.bytes.len() / 8
+        self.split.applications.count::<8, ApplicationRecord>()
     }
 
     pub fn request_count(&self) -> usize
         ensures { result ≡ length (tables_of self.now).requests }
     {
-        self.requests.bytes.len() / 16
+        self.split.requests.count::<16, RequestRecord>()
     }
 
     pub fn event_count(&self) -> usize
         ensures { result ≡ length (tables_of self.now).events }
     {
-        self.events.bytes.len() / 16
+        self.split.events.count::<16, EventRecord>()
     }
 
     /// The application record at that index, which is of the application of the next number.
     pub fn application(&self, index: usize) -> Option<Placed<ApplicationRecord>>
         ensures { result ≡ placed (parts_of self.now).applications.offset 8 (tables_of self.now).applications index }
     {
-        let Some(Placed { offset, value }) = self.applications.piece_of_8(index) else {
-            return None;
-        };
-        Some(Placed {
-            offset,
-            value: ApplicationRecord::of(value),
-        })
+        self.split.applications.record(index)
     }
 
     pub fn request(&self, index: usize) -> Option<Placed<RequestRecord>>
         ensures { result ≡ placed (parts_of self.now).requests.offset 16 (tables_of self.now).requests index }
     {
-        let Some(Placed { offset, value }) = self.requests.piece_of_16(index) else {
-            return None;
-        };
-        Some(Placed {
-            offset,
-            value: RequestRecord::of(value),
-        })
+        self.split.requests.record(index)
     }
 
     pub fn event(&self, index: usize) -> Option<Placed<EventRecord>>
         ensures { result ≡ placed (parts_of self.now).events.offset 16 (tables_of self.now).events index }
     {
-        let Some(Placed { offset, value }) = self.events.piece_of_16(index) else {
-            return None;
-        };
-        Some(Placed {
-            offset,
-            value: EventRecord::of(value),
-        })
+        self.split.events.record(index)
     }
 }

@@ -1,18 +1,21 @@
 //! The three layers of reading. The first fault is handed on by each.
 
-ghost use Rattle.std.specs.Prelude.{◌≡◌, IfOk};
-ghost use Rattle.files.specs.Contents.{Sized};
-ghost use Rattle.files.specs.Reading.{Bounded, parts, judge_records, judge_roster, opened};
+ghost use Rattle.std.specs.Prelude.{◌≡◌, length, IfOk};
+ghost use Rattle.files.specs.Contents.{end_of};
+ghost use Rattle.files.specs.Reading.{parts, judge_records, judge_roster, opened, tables};
 ghost use Rattle.files.specs.Writing.{Makes};
-ghost use Rattle.trace.specs.View.{parts_of, tables_of, answered};
+ghost use Rattle.trace.specs.View.{split_of, tables_of, answered};
 
 use crate::fault::Fault;
 use crate::parts::Body;
-use crate::tables::Settings;
+use crate::tables::{ApplicationRecord, RequestRecord, Settings};
 use crate::trace::Trace;
-use bodies::judge::judge_body;
-use bodies::judges::{ApplicationBytes, Events, Members, RequestBytes, judge_hold, judge_settings};
+use crate::trace::split::Split;
+use bodies::judge::judge_all;
+use bodies::judges::{Events, Members, Sound, judge_hold, judge_settings};
+use fields::get::cut;
 use files::contents::Contents;
+use records::record::Record;
 
 impl<'a> Trace<'a> {
     /// The trace that the bytes are, or the first fault in them.
@@ -28,69 +31,53 @@ impl<'a> Trace<'a> {
         ensures { answered result ≡ opened bytes.now }
     {
         let contents = Contents::read(bytes)?;
-        let trace = Trace::split(bytes, contents);
-        trace.judge_records()?;
-        trace.judge_roster()?;
-        Ok(trace)
+        let split = Split::by(contents, bytes);
+        split.judge_records()?;
+        split.judge_roster()?;
+        Ok(Trace { split })
     }
+}
 
-    /// The parts of a file whose contents were accepted.
-    fn split(bytes: &'a [u8], contents: Contents) -> Trace<'a>
-        requires { Sized contents bytes.now }
-        ensures parts { parts_of result ≡ parts contents bytes.now }
-        ensures bounds { Bounded (parts_of result) }
+impl<'a> Split<'a> {
+    fn by(contents: Contents, bytes: &'a [u8]) -> Split<'a>
+        requires { length bytes.now ≡ end_of contents }
+        ensures { split_of result ≡ parts contents bytes.now }
     {
-        let Contents {
-            applications,
-            requests,
-            events,
-        } = contents;
-        let settings_body = Body::of(bytes, 32, 8);
-        let requests_at = 40 + 8 * applications;
-        Trace {
-            settings: Settings::of(settings_body.bytes),
-            settings_body,
-            applications: Body::of(bytes, 40, 8 * applications),
-            requests: Body::of(bytes, requests_at, 16 * requests),
-            events: Body::of(bytes, requests_at + 16 * requests, 16 * events),
+        let requests_at = contents.requests_at();
+        let events_at = contents.events_at();
+        Split {
+            settings: cut(bytes, 32, 8).as_array().unwrap(),
+            applications: Body::of(bytes, 40, 8 * contents.applications),
+            requests: Body::of(bytes, requests_at, 16 * contents.requests),
+            events: Body::of(bytes, events_at, 16 * contents.events),
         }
     }
 
     /// The second layer: each record by itself.
     fn judge_records(&self) -> Result<(), Fault>
-        requires { Bounded (parts_of self.now) }
-        ensures { result ≡ judge_records (parts_of self.now) }
+        ensures { result ≡ judge_records (split_of self.now) }
     {
-        judge_settings(self.settings_body.bytes)?;
-        let body = self.applications.bytes;
-        judge_body(&ApplicationBytes, body, body.len() / 8)?;
-        let body = self.requests.bytes;
-        let requests = body.len() / 16;
-        judge_body(
-            &RequestBytes {
-                first: self.requests.offset,
-            },
-            body,
-            requests,
+        judge_settings(self.settings)?;
+        judge_all(
+            &Sound::<ApplicationRecord>::from(40),
+            self.applications.pieces::<8>(),
         )?;
-        let body = self.events.bytes;
-        judge_body(
-            &Events {
-                first: self.events.offset,
-                requests,
-            },
-            body,
-            body.len() / 16,
-        )
+        judge_all(
+            &Sound::<RequestRecord>::from(self.requests.offset),
+            self.requests.pieces::<16>(),
+        )?;
+        let events = Events {
+            first: self.events.offset,
+            requests: self.requests.count::<16, RequestRecord>(),
+        };
+        judge_all(&events, self.events.pieces::<16>())
     }
 
     /// The third layer: the roster that the records make.
     fn judge_roster(&self) -> Result<(), Fault>
-        requires { Bounded (parts_of self.now) }
-        ensures { result ≡ judge_roster self.now.settings (tables_of self.now).applications }
+        ensures { result ≡ judge_roster (split_of self.now).settings (tables (split_of self.now)).applications }
     {
-        judge_hold(self.settings)?;
-        let body = self.applications.bytes;
-        judge_body(&Members, body, body.len() / 8)
+        judge_hold(Settings::of(self.settings))?;
+        judge_all(&Members, self.applications.pieces::<8>())
     }
 }

@@ -1,13 +1,8 @@
-use Rattle.std.proofs.Common.{arith, rules}
+use Rattle.std.proofs.Common.{arith}
 use Rattle.fields.specs.Numbers.{bytes}
 use Rattle.fields.proofs.Puts.{put_twice}
 use Rattle.trace.proofs.writer.put_entry.Goals as goal
 
-pub returns : goal.returns
-returns c =
-    record {
-      end = search rules;
-      after =
-          put_twice _ _ (bytes 4 c.args.offset) (bytes 4 c.args.count) _ c.put_u32-end.ensures.after c.put_u32.ensures.after
-          c.put_u32-end.ensures.end (omega arith);
-    }
+pub returns-clause-after : goal.returns-clause-after
+returns-clause-after c =
+    put_twice _ _ (bytes 4 c.args.offset) (bytes 4 c.args.count) _ c.put-end.ensures.after c.put.ensures.after c.put-end.ensures.end (omega arith)

@@ -1,10 +1,12 @@
-use Rattle.files.specs.Writing.{given}
 use Rattle.files.proofs.ReadBack.{read_back as alike}
+use Rattle.trace.specs.View.{given_of}
 use Rattle.trace.proofs.Calls.{read_back as again}
 use Rattle.trace.proofs.writer.write_trace.Goals as goal
 
-pub returns : goal.returns
-returns c =
-    let t = given c.args.settings c.args.applications.now c.args.requests.now c.args.events.now in
+pub returns-clause-read_back : goal.returns-clause-read_back
+returns-clause-read_back c =
     let left = c.write_judged.ensures in
-    record { answer = left.answer; after = left.after; read_back = again t _ _ _ left.answer left.after left.within; same_faults = alike t }
+    again (given_of c.args.tables.now) _ _ _ left.answer left.after left.within
+
+pub returns-clause-same_faults : goal.returns-clause-same_faults
+returns-clause-same_faults c = alike (given_of c.args.tables.now)

@@ -1,8 +1,8 @@
-use Rattle.trace.specs.View.{tables_of}
+use Rattle.std.proofs.Common.{◌+◌}
 use Rattle.replays.specs.Asked.{members}
 use Rattle.replays.specs.Credits.{sums_of}
 use Rattle.replays.proofs.Sharing.{Sharing}
 use Rattle.replays.proofs.replay.shares.put_shares.Given as goal
 
-abbrev pub invariant-loop-k : goal.invariant-loop-k
-invariant-loop-k l = Sharing (sums_of l.sent) (members (tables_of l.trace).applications) l.initial.out l.at l.k l.end l.out
+abbrev pub invariant-loop-index : goal.invariant-loop-index
+invariant-loop-index l = Sharing (sums_of l.sent) (members l.workload.applications) l.fn.out l.at (l.index + 1) l.end l.out

@@ -4,4 +4,4 @@ use Rattle.scheduler.proofs.Firsts.{so_far}
 use Rattle.scheduler.proofs.scheduler.seal.allot_first.Given as goal
 
 abbrev pub invariant-loop-k : goal.invariant-loop-k
-invariant-loop-k g l = table l.stamps ≡ so_far g.R.BudgetRule.first_budget l.k (table l.initial.stamps)
+invariant-loop-k g l = table l.stamps ≡ so_far g.R.BudgetRule.first_budget (table l.initial.stamps) l.k

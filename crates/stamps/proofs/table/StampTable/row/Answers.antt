@@ -1,10 +1,7 @@
-use Rattle.std.proofs.Common.{vec_items, sym, rules}
-use Rattle.std.proofs.lemmas.List.{get_or_read, get_or_past}
+use Rattle.std.proofs.Common.{ap, ◌∙◌, vec_items, unwrap_or}
+use Rattle.std.proofs.lemmas.Option.{unwrap_or-slice_get}
 use Rattle.rosters.specs.Stamps.{no_stamp}
 use Rattle.stamps.proofs.table.StampTable.row.Goals as goal
 
-pub returns-then-application-len : goal.returns-then-application-len
-returns-then-application-len c = sym (get_or_past (vec_items c.args.self.now.stamps) c.args.application no_stamp (search rules))
-
 pub returns : goal.returns
-returns c = get_or_read (vec_items c.args.self.now.stamps) c.args.application c.index.result.now (search rules) c.index.ensures no_stamp
+returns c = c.unwrap_or.ensures ∙ ap (λ o. unwrap_or o no_stamp) c.stamp.ensures ∙ unwrap_or-slice_get (vec_items c.args.self.now.stamps) c.args.application no_stamp

@@ -1,13 +1,8 @@
-use Rattle.std.proofs.Common.{◌+◌, rules}
+use Rattle.std.proofs.Common.{rules}
 use Rattle.stamps.specs.Steps.{charged}
 use Rattle.stamps.specs.View.{table}
-use Rattle.stamps.proofs.Soundness.{kept_by, after, charged_sound}
+use Rattle.stamps.proofs.Soundness.{kept_by, charged_sound}
 use Rattle.stamps.proofs.table.StampTable.send.Goals as goal
 
 pub invariant_of-self : goal.invariant_of-self
-invariant_of-self c =
-    let old = c.args.self.now in
-    record {
-      sound = kept_by (charged c.args.size) (charged_sound c.args.size) (table old)
-          (after old c.in-Some.k c.charged.result c.moved-self.result (old.sent + c.from.result) old.serving) (search rules) old.sound;
-    }
+invariant_of-self c = let old = c.args.self.now in record { sound = kept_by (charged c.args.size) (charged_sound c.args.size) (table old) _ (search rules) old.sound }
