@@ -4,12 +4,11 @@
 #![tactic(auto)]
 
 ghost use Rattle.std.specs.Prelude.{◌≡◌, MatchOption};
-ghost use Rattle.rosters.specs.Rosters.{line_up, total_weight, largest_limit};
+ghost use Rattle.rosters.specs.Rosters.{line_up};
 ghost use Rattle.share_law.specs.Shares.{Law, Unlisted};
-ghost use Rattle.share_law.specs.Bounds.{allowed, bound_answer, Bound, InRange};
+ghost use Rattle.share_law.specs.Bounds.{allowance, rounded_up, bound_answer, Bound, InRange};
 ghost use Rattle.share_law.specs.Example.{Met};
 
-use rosters::application::Application;
 use rosters::roster::Roster;
 
 /// By how many sectors an application can fall behind its share of all that is sent while it is never
@@ -21,18 +20,19 @@ pub fn bound_in_sectors(roster: &Roster, application: usize) -> Option<u64>
     ensures example { Met }
 {
     let entry = roster.application(application)?;
-    let total_weight = u64::from(roster.total_weight());
-    Some(allowed(roster, entry).div_ceil(total_weight))
+    Some(rounded_bound(
+        u64::from(roster.total_weight()),
+        u64::from(roster.largest_limit()),
+        u64::from(entry.weight),
+        u64::from(entry.limit),
+    ))
 }
 
-/// What the share bound allows an application beyond its share, by the total weight times over.
-fn allowed(roster: &Roster, entry: Application) -> u64
-    requires { InRange (total_weight (line_up roster.now)) (largest_limit (line_up roster.now)) entry.weight entry.limit }
-    ensures { result ≡ allowed (line_up roster.now) entry }
+/// The bound by the figures alone: the share bound divided by the total weight, rounded up.
+fn rounded_bound(total_weight: u64, largest_limit: u64, weight: u64, limit: u64) -> u64
+    requires { InRange total_weight largest_limit weight limit }
+    ensures { result ≡ rounded_up (allowance total_weight largest_limit weight limit) total_weight }
 {
-    let total_weight = u64::from(roster.total_weight());
-    let largest_limit = u64::from(roster.largest_limit());
-    let weight = u64::from(entry.weight);
-    let limit = u64::from(entry.limit);
-    (2 * total_weight - weight) * limit + weight * largest_limit
+    let allowance = (2 * total_weight - weight) * limit + weight * largest_limit;
+    allowance.div_ceil(total_weight)
 }
