@@ -1,11 +1,11 @@
 -- A search from the front, which holds the least element so far, ends at the chosen place. Assumes nothing.
-use Rattle.std.proofs.Common.{◌≡◌, ℕ, ◌+◌, ◌<◌, ◌≤◌, Bool, true, false, cond, List, [], ◌∷◌, length, get_or, drop, Some, None, Option, IfSome, IsSomeAnd, refl, sym, ap, ◌∙◌, subst, arith}
+use Rattle.std.proofs.Common.{◌≡◌, ℕ, ◌+◌, ◌<◌, ◌≤◌, Bool, true, false, cond, List, [], ◌∷◌, length, get_or, drop, Some, None, Option, refl, sym, ap, ◌∙◌, subst, arith}
 use Rattle.std.proofs.lemmas.List.{get_or_default, drop_more, drop_all}
 use Rattle.std.proofs.lemmas.Option.{MatchOption-at_some}
 use Rattle.std.specs.Cmp.{IsStrictWeakOrder}
 use Rattle.std.specs.Option.{option_map}
 use denote.Ref.{Bor}
-use Rattle.least.specs.Choice.{FirstLeast, place, prefer}
+use Rattle.least.specs.Choice.{FirstLeast, place, prefer, against, turned}
 use Rattle.least.proofs.Places.{place_means}
 
 module _ {X : Type 0} (eligible : X → Bool) (before : X → X → Bool) where
@@ -29,16 +29,11 @@ module _ {X : Type 0} (eligible : X → Bool) (before : X → X → Bool) where
     passed (Some p) m y ys None = grind arith
     passed (Some p) m y ys (Some k) = grind arith
 
-    taken : (held : Option (ℕ × Bor X)) (m : ℕ) (r : Bor X) (y : X) (ys : List X) (o : Option ℕ) → r.now ≡ y → IfSome held (λ p. true ≡ before y p.1.now) → ((k : ℕ) → o ≡ Some k → k < length ys) → better (Some (m, r)) (m + 1) ys o ≡ better held m (y ∷ ys) (prefer before true y ys o)
-    taken None m r y ys None shows wins inside = grind arith
-    taken None m r y ys (Some k) shows wins inside = grind arith
-    taken (Some p) m r y ys None shows wins inside = grind arith
-    taken (Some p) m r y ys (Some k) shows wins inside = grind (arith, ranks.chain, ranks.one_way, get_or_default, inside k refl)
-
-    kept : (held : Option (ℕ × Bor X)) (m : ℕ) (y : X) (ys : List X) (o : Option ℕ) → IsSomeAnd held (λ p. false ≡ before y p.1.now) → ((k : ℕ) → o ≡ Some k → k < length ys) → better held (m + 1) ys o ≡ better held m (y ∷ ys) (prefer before true y ys o)
-    kept None m y ys o loses inside = absurd loses
-    kept (Some p) m y ys None loses inside = grind arith
-    kept (Some p) m y ys (Some k) loses inside = grind (arith, ranks.chain, get_or_default, inside k refl)
+    met : (held : Option (ℕ × Bor X)) (m : ℕ) (r : Bor X) (y : X) (ys : List X) (o : Option ℕ) → r.now ≡ y → ((k : ℕ) → o ≡ Some k → k < length ys) → better (against before held m r) (m + 1) ys o ≡ better held m (y ∷ ys) (prefer before true y ys o)
+    met None m r y ys None shows inside = grind arith
+    met None m r y ys (Some k) shows inside = grind arith
+    met (Some p) m r y ys None shows inside = grind arith
+    met (Some p) m r y ys (Some k) shows inside = grind (arith, ranks.chain, ranks.one_way, get_or_default, inside k refl)
 
     -- one turn, at the element y: what is held leads on, and is new by then
     module _ (xs : List X) (held new : Option (ℕ × Bor X)) (m : ℕ) (y : X) (leads : Leads xs held m) (inside : m < length xs) (reads : y ≡ get_or xs m y) where
@@ -50,14 +45,12 @@ module _ {X : Type 0} (eligible : X → Bool) (before : X → X → Bool) where
           let opened = drop_more xs m y inside ∙ ap (λ v. v ∷ drop (m + 1) xs) (sym reads) in
           subst (λ t. Chosen t (place eligible before xs)) e (sym leads ∙ ap (λ l. better held m l (place eligible before l)) opened)
 
-      pub passes : new ≡ held → eligible y ≡ false → Leads xs new (m + 1)
-      passes is e = ap (λ h. better h (m + 1) (drop (m + 1) xs) (place eligible before (drop (m + 1) xs))) is ∙ passed held m y (drop (m + 1) xs) _ ∙ sym (so_far false e)
-
-      pub keeps : new ≡ held → eligible y ≡ true → IsSomeAnd held (λ p. false ≡ before y p.1.now) → Leads xs new (m + 1)
-      keeps is e loses = ap (λ h. better h (m + 1) (drop (m + 1) xs) (place eligible before (drop (m + 1) xs))) is ∙ kept held m y (drop (m + 1) xs) _ loses (within (drop (m + 1) xs)) ∙ sym (so_far true e)
-
-      pub takes : (r : Bor X) → r.now ≡ y → new ≡ Some (m, r) → eligible y ≡ true → IfSome held (λ p. true ≡ before y p.1.now) → Leads xs new (m + 1)
-      takes r shows is e wins = ap (λ h. better h (m + 1) (drop (m + 1) xs) (place eligible before (drop (m + 1) xs))) is ∙ taken held m r y (drop (m + 1) xs) _ shows wins (within (drop (m + 1) xs)) ∙ sym (so_far true e)
+      pub leads_on : (r : Bor X) → r.now ≡ y → new ≡ turned eligible before held m r → Leads xs new (m + 1)
+      leads_on r shows is = subst (λ h. Leads xs h (m + 1)) (sym is) (go (eligible r.now) (ap eligible shows))
+        where
+          go : (b : Bool) → b ≡ eligible y → Leads xs (cond b (against before held m r) held) (m + 1)
+          go true e = met held m r y (drop (m + 1) xs) _ shows (within (drop (m + 1) xs)) ∙ sym (so_far true (sym e))
+          go false e = passed held m y (drop (m + 1) xs) _ ∙ sym (so_far false (sym e))
 
     -- with none to come, what is held is the choice
     pub ends : (xs : List X) (held : Option (ℕ × Bor X)) (m : ℕ) → Leads xs held m → length xs ≤ m → option_map (λ p. p.0) held ≡ place eligible before xs

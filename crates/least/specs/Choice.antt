@@ -1,5 +1,6 @@
 -- What the choosing rule chooses, said twice: by its meaning, and as a function.
 use Rattle.std.specs.Prelude.{◌≡◌, ℕ, suc, ◌<◌, Bool, true, false, cond, List, [], ◌∷◌, length, Some, None, Option, slice_index_or}
+use Rattle.std.specs.Borrow.{Bor}
 
 -- k is the place of the first least eligible element of xs
 pub record FirstLeast {X : Type 0} (eligible : X → Bool) (before : X → X → Bool) (xs : List X) (k : ℕ) : Type 0 where
@@ -27,3 +28,14 @@ prefer before false x xs (Some k) = Some (suc k)
 abbrev pub place : {X : Type 0} → (X → Bool) → (X → X → Bool) → List X → Option ℕ
 place eligible before [] = None
 place eligible before (x ∷ xs) = prefer before (eligible x) x xs (place eligible before xs)
+
+-- The element held, if any, and x at the place m, which is eligible: the one held gives way only to one that
+-- comes strictly before it.
+abbrev pub against : {X : Type 0} → (X → X → Bool) → Option (ℕ × Bor X) → ℕ → Bor X → Option (ℕ × Bor X)
+against before None m x = Some (m, x)
+against before (Some p) m x = cond (before x.now p.1.now) (Some (m, x)) (Some p)
+
+-- One turn of the search: what is held once x, at the place m, is looked at. It is passed over where it is
+-- not eligible.
+abbrev pub turned : {X : Type 0} → (X → Bool) → (X → X → Bool) → Option (ℕ × Bor X) → ℕ → Bor X → Option (ℕ × Bor X)
+turned eligible before held m x = cond (eligible x.now) (against before held m x) held

@@ -5,7 +5,7 @@
 
 ghost use Rattle.std.specs.Prelude.{◌≡◌, Bool, MatchOption};
 ghost use Rattle.std.specs.Cmp.{IsStrictWeakOrder};
-ghost use Rattle.least.specs.Choice.{FirstLeast, NoneEligible, place};
+ghost use Rattle.least.specs.Choice.{FirstLeast, NoneEligible, place, turned};
 
 /// A question put to a row of elements: which of them are eligible, and which of two comes before
 /// the other by its key. The question carries what both depend on, as the head's position.
@@ -33,11 +33,23 @@ pub fn first_least<Q: Query>(query: &Q, items: &[Q::Item]) -> Option<usize>
     ensures place { result ≡ place (Q.Query.eligible query.now) (Q.Query.before query.now) items.now }
     ensures meaning { MatchOption result (NoneEligible (Q.Query.eligible query.now) items.now) (FirstLeast (Q.Query.eligible query.now) (Q.Query.before query.now) items.now) }
 {
-    let mut least: Option<(usize, &Q::Item)> = None;
+    let mut least = None;
     for (place, item) in items.iter().enumerate() {
-        if query.is_eligible(item) && least.is_none_or(|(_, held)| query.is_before(item, held)) {
-            least = Some((place, item));
-        }
+        turn(query, &mut least, place, item);
     }
     least.map(|(place, _)| place)
+}
+
+/// One turn of the search, from the front on: what is held, with its place, once `item` is looked at.
+fn turn<'a, Q: Query>(
+    query: &Q,
+    held: &mut Option<(usize, &'a Q::Item)>,
+    place: usize,
+    item: &'a Q::Item,
+)
+    ensures { held.new ≡ turned (Q.Query.eligible query.now) (Q.Query.before query.now) held.old place item.entry }
+{
+    if query.is_eligible(item) && held.is_none_or(|(_, least)| query.is_before(item, least)) {
+        *held = Some((place, item));
+    }
 }

@@ -3,9 +3,8 @@ use Rattle.std.proofs.Common.{◌≡◌, ◌∙◌, sym, subst, rules, refl, Mat
 use Rattle.std.specs.Option.{option_map}
 use Rattle.least.specs.Choice.{FirstLeast, NoneEligible}
 use Rattle.least.proofs.Places.{place_means}
-use Rattle.least.proofs.Search.{passes, takes, keeps, ends}
+use Rattle.least.proofs.Search.{leads_on, ends}
 use Rattle.least.proofs.first_least.Goals as goal
-use Rattle.least.proofs.first_least.Goals.{then-is_eligible+then-is_none_or, else-is_eligible, else-is_eligible-via-then-is_eligible+else-is_none_or, else-is_eligible-via-else-is_eligible}
 
 pub loop-place-preserved : goal.loop-place-preserved
 loop-place-preserved g c =
@@ -13,19 +12,7 @@ loop-place-preserved g c =
     let before = g.Q.Query.before c.args.query.now in
     let ranks = g.met.Q.Query.ranks c.args.query.now in
     let xs = c.args.items.now in
-    let held = c.loop-place.least in
-    let m = c.loop-place.place in
-    let y = c.index-items-place.result in
-    elim c.if-is_eligible.branch [
-      | then-is_eligible+then-is_none_or w ↦
-          takes eligible before ranks xs held _ m y c.loop-place.invariant c.loop-place-test.true c.index-items-place.is _ refl w.least-is (search rules) (search rules)
-      | else-is_eligible w ↦ elim w.else-is_eligible.branch [
-        | else-is_eligible-via-then-is_eligible+else-is_none_or w' ↦
-            keeps eligible before ranks xs held _ m y c.loop-place.invariant c.loop-place-test.true c.index-items-place.is w.least-is (search rules) (search rules)
-        | else-is_eligible-via-else-is_eligible w' ↦
-            passes eligible before ranks xs held _ m y c.loop-place.invariant c.loop-place-test.true c.index-items-place.is w.least-is (search rules)
-      ]
-    ]
+    leads_on eligible before ranks xs c.loop-place.least _ c.loop-place.place c.index-items-place.result c.loop-place.invariant c.loop-place-test.true c.index-items-place.is _ refl c.turn.ensures
 
 pub returns : goal.returns
 returns g c =
