@@ -50,15 +50,25 @@ impl Line {
         let Some(first) = words.next().filter(|word| !word.starts_with('#')) else {
             return Ok(None);
         };
-        let line = match (first, words.next(), words.next(), words.next()) {
-            ("head", Some(sector), None, None) => Some(Line::Head(sector.parse()?)),
-            ("request", Some(first), Some(size), None) => request(first.parse()?, size.parse()?),
-            ("rule", Some(sectors), None, None) => limit(sectors.parse()?),
-            ("reason", Some(word), None, None) => reason(word).map(Line::Ended),
-            _ => None,
+        // One word after the other, since each call past the last word goes over the blanks behind it again.
+        let line = match first {
+            "head" => Line::Head(number(words.next())?),
+            "request" => {
+                request(number(words.next())?, number(words.next())?).ok_or(Unreadable)?
+            }
+            "rule" => limit(number(words.next())?).ok_or(Unreadable)?,
+            "reason" => Line::Ended(words.next().and_then(reason).ok_or(Unreadable)?),
+            _ => return Err(Unreadable),
         };
-        line.map(Some).ok_or(Unreadable)
+        match words.next() {
+            None => Ok(Some(line)),
+            Some(_) => Err(Unreadable),
+        }
     }
+}
+
+fn number(word: Option<&str>) -> Result<u64, Unreadable> {
+    Ok(word.ok_or(Unreadable)?.parse()?)
 }
 
 // `FromStr` cannot be written here, since neither the trait nor `Reason` is this program's own.
