@@ -5,7 +5,7 @@ ghost use Rattle.bodies.specs.Judging.{at_least_sound, judge_hold, judge_setting
 
 use crate::judge::Judge;
 use records::fault::{Cause, Fault, Layer};
-use records::record::Record;
+use records::record::FixedRecord;
 use records::tables::{ApplicationRecord, Event, EventRecord, Settings};
 use std::marker::PhantomData;
 
@@ -45,7 +45,7 @@ impl<R> Sound<R> {
     }
 }
 
-impl<const N: usize, R: Record<N>> Judge<[u8; N]> for Sound<R> {
+impl<const N: usize, R: FixedRecord<N>> Judge<[u8; N]> for Sound<R> {
     ghost verdict = { λ j i bs. at_least_sound (R.sound bs) (j.first + N * i) };
 
     fn judge(&self, index: usize, bytes: &[u8; N]) -> Result<(), Fault> {

@@ -5,3 +5,5 @@
 pub mod judge;
 pub mod judges;
 pub mod put;
+#[cfg(test)]
+mod tests;

@@ -5,7 +5,7 @@ ghost use Rattle.files.specs.Parts.{part, part_of, placed};
 ghost use Rattle.files.specs.Reading.{pieces};
 
 use fields::get::cut;
-use records::record::Record;
+use records::record::FixedRecord;
 
 /// A body: a part of the file, and where it begins.
 #[derive(Clone, Copy)]
@@ -45,15 +45,15 @@ impl<'a> Body<'a> {
     }
 
     /// How many records of a kind there are.
-    pub fn count<const N: usize, R: Record<N>>(&self) -> usize
-        ensures { result ≡ length (map R.Record.parsed (pieces N self.now.bytes.now)) }
+    pub fn count<const N: usize, R: FixedRecord<N>>(&self) -> usize
+        ensures { result ≡ length (map R.FixedRecord.parsed (pieces N self.now.bytes.now)) }
     {
         self.pieces::<N>().len()
     }
 
     /// The record of a kind at that index.
-    pub fn record<const N: usize, R: Record<N>>(&self, index: usize) -> Option<Placed<R>>
-        ensures { result ≡ placed self.now.offset N (map R.Record.parsed (pieces N self.now.bytes.now)) index }
+    pub fn record<const N: usize, R: FixedRecord<N>>(&self, index: usize) -> Option<Placed<R>>
+        ensures { result ≡ placed self.now.offset N (map R.FixedRecord.parsed (pieces N self.now.bytes.now)) index }
     {
         let bytes = self.pieces::<N>().get(index)?;
         Some(Placed {

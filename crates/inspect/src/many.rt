@@ -3,7 +3,7 @@
 ghost use Rattle.std.specs.Prelude.{◌<◌, length, IfSome};
 
 use crate::report::{show, show_fault};
-use records::record::Record;
+use records::record::FixedRecord;
 use std::alloc::{AllocError, Global};
 use std::io;
 use std::io::Write;
@@ -86,7 +86,7 @@ impl Loaded {
     }
 }
 
-fn load<const N: usize, R: Record<N>>(heap: Global, body: Body) -> Result<Vec<R>, AllocError> {
+fn load<const N: usize, R: FixedRecord<N>>(heap: Global, body: Body) -> Result<Vec<R>, AllocError> {
     // A loop and not `map` and `collect`: a function passed to `map` whose result is of a type parameter gets no proof.
     let mut table = Vec::new(heap);
     for bytes in body.pieces() {

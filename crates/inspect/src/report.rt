@@ -1,6 +1,6 @@
 //! The report on one file.
 
-use records::record::Record;
+use records::record::FixedRecord;
 use std::fmt::Display;
 use std::io;
 use std::io::Write;
@@ -46,7 +46,7 @@ pub fn show<W: Write>(out: &mut W, trace: &Trace) -> io::Result<()> {
 }
 
 /// The first records of a body, and how many more it has.
-fn show_first<const N: usize, R: Record<N> + Display, W: Write>(
+fn show_first<const N: usize, R: FixedRecord<N> + Display, W: Write>(
     out: &mut W,
     name: &str,
     body: Body,

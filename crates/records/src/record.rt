@@ -1,19 +1,30 @@
-//! The kinds of record.
+//! The kinds of record: what is put into a buffer, and what is read again besides.
 
 ghost use Rattle.std.specs.Prelude.{◌≡◌, ℕ, ◌+◌, ◌<◌, ◌≤◌, Bool, List, length};
 ghost use Rattle.fields.specs.Buffers.{put};
 
-/// What is laid out in `N` bytes.
-pub trait Record<const N: usize>: Copy {
+/// What can be laid out in bytes.
+pub trait Record {
     ghost laid: { Self → List ℕ };
 
+    // each number lies within its field
+    ghost fits: { Self → Type 0 };
+
+    /// Puts the record into a buffer, and answers where it ended.
+    fn put(self, out: &mut [u8], at: usize) -> usize
+        requires { at + length (laid self) ≤ length out.old }
+        ensures end { result ≡ at + length (laid self) }
+        ensures after { out.new ≡ put at (laid self) out.old }
+        ensures within { fits self };
+}
+
+/// What is laid out in `N` bytes, and read again.
+// A trait of its own: what is only put may have any length, and need not be read.
+pub trait FixedRecord<const N: usize>: Record + Copy {
     // the record that bytes hold, and whether they hold one
     ghost parsed: { List ℕ → Self };
 
     ghost sound: { List ℕ → Bool };
-
-    // each number lies within its field
-    ghost fits: { Self → Type 0 };
 
     /// Whether bytes hold a record.
     // Each impl tests byte by byte, as the table of the format has them.
@@ -25,14 +36,7 @@ pub trait Record<const N: usize>: Copy {
     fn of(bytes: &[u8; N]) -> Self
         ensures { result ≡ parsed bytes.now };
 
-    /// Puts the record into a buffer, and answers where it ended.
-    fn put(self, out: &mut [u8], at: usize) -> usize
-        requires { at + N ≤ length out.old }
-        ensures end { result ≡ at + N }
-        ensures after { out.new ≡ put at (laid self) out.old }
-        ensures within { fits self };
-
-    ghost long: { (r : Self) → length (laid r) ≡ N };
+    ghost long: { (r : Self) → length (Self.laid r) ≡ N };
 
     ghost width: { (0 < N) × (N ≤ 16) };
 }

@@ -6,19 +6,33 @@ ghost use Rattle.fields.specs.Buffers.{put};
 ghost use Rattle.records.specs.Layouts.{request_bytes, request_fits, request_of, request_sound};
 
 use crate::kind::Kind;
-use crate::record::Record;
+use crate::record::{FixedRecord, Record};
 use crate::tables::RequestRecord;
 use fields::get::get;
 use fields::put::{put, put_bytes};
 
-impl Record<16> for RequestRecord {
+impl Record for RequestRecord {
     ghost laid = { request_bytes };
 
+    ghost fits = { request_fits };
+
+    fn put(self, out: &mut [u8], at: usize) -> usize {
+        let RequestRecord {
+            first,
+            size,
+            application,
+            kind,
+        } = self;
+        let end = put(out, at, first);
+        let end = put(out, end, size);
+        put_bytes(out, end, &[application, u8::from(kind), 0, 0, 0, 0])
+    }
+}
+
+impl FixedRecord<16> for RequestRecord {
     ghost parsed = { request_of };
 
     ghost sound = { request_sound };
-
-    ghost fits = { request_fits };
 
     fn is_sound(bytes: &[u8; 16]) -> bool {
         Kind::try_from(bytes[11]).is_ok()
@@ -35,18 +49,6 @@ impl Record<16> for RequestRecord {
             application: bytes[10],
             kind: Kind::try_from(bytes[11]).unwrap_or(Kind::Asynchronous),
         }
-    }
-
-    fn put(self, out: &mut [u8], at: usize) -> usize {
-        let RequestRecord {
-            first,
-            size,
-            application,
-            kind,
-        } = self;
-        let end = put(out, at, first);
-        let end = put(out, end, size);
-        put_bytes(out, end, &[application, u8::from(kind), 0, 0, 0, 0])
     }
 
     ghost long = { λ _. refl };

@@ -9,7 +9,7 @@ ghost use Rattle.replays.specs.Listings.{share_lines};
 use crate::replay::workload::Workload;
 use driver::command::{Answer, Outcome};
 use listing::lines::put_share;
-use records::record::Record;
+use records::record::FixedRecord;
 use trace::tables::ApplicationRecord;
 
 /// Adds what was sent to its application's sectors.

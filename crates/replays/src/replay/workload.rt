@@ -8,7 +8,7 @@ ghost use Rattle.rosters.specs.Rosters.{line_up};
 ghost use Rattle.replays.specs.Asked.{arrival, command, roster};
 
 use driver::command::Command;
-use records::record::Record;
+use records::record::FixedRecord;
 use rosters::roster::Roster;
 use std::alloc::{AllocError, Global};
 use std::marker::Model;

@@ -7,7 +7,7 @@ ghost use Rattle.trace.specs.View.{parts_of, tables_of};
 use crate::parts::{Body, Placed};
 use crate::tables::{ApplicationRecord, EventRecord, RequestRecord, Settings};
 use crate::trace::Trace;
-use records::record::Record;
+use records::record::FixedRecord;
 
 impl<'a> Trace<'a> {
     pub fn settings(&self) -> Settings

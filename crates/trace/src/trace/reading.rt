@@ -15,7 +15,7 @@ use bodies::judge::judge_all;
 use bodies::judges::{Events, Members, Sound, judge_hold, judge_settings};
 use fields::get::cut;
 use files::contents::Contents;
-use records::record::Record;
+use records::record::FixedRecord;
 
 impl<'a> Trace<'a> {
     /// The trace that the bytes are, or the first fault in them.

@@ -9,7 +9,7 @@ returns-in_err-bytes g c =
     let list = pieces g.row.N c.args.self.now.bytes.now in
     let none = ltb-false c.args.index (length c.pieces.result.now) (sym c.in_err-bytes.ensures.lookup.0) in
     let past : length list ≤ c.args.index = rw (← c.pieces.ensures.value) none in
-    c.from_residual.ensures ∙ none_placed g.R.Record.parsed c.args.self.now.offset g.row.N list c.args.index past
+    c.from_residual.ensures ∙ none_placed g.R.FixedRecord.parsed c.args.self.now.offset g.row.N list c.args.index past
 
 pub returns : goal.returns
 returns g c =
@@ -18,4 +18,4 @@ returns g c =
     let found = c.in_ok-bytes.ensures.lookup in
     let within : c.args.index < length list = rw (← c.pieces.ensures.value) found.3.0 in
     let there : bytes ≡ get_or list c.args.index bytes = rw (← c.pieces.ensures.value) found.1 in
-    one_placed g.R.Record.parsed c.args.self.now.offset g.row.N list c.args.index bytes c.of.result within there c.of.ensures
+    one_placed g.R.FixedRecord.parsed c.args.self.now.offset g.row.N list c.args.index bytes c.of.result within there c.of.ensures

@@ -1,7 +1,7 @@
 use Rattle.std.proofs.Common.{[], ◌∷◌, arith}
 use Rattle.fields.specs.Numbers.{bytes}
 use Rattle.fields.proofs.Puts.{put_twice}
-use Rattle.records.proofs.layouts.settings.SettingsRecord8.put.Goals as goal
+use Rattle.records.proofs.layouts.settings.SettingsRecord.put.Goals as goal
 
 pub returns-clause-after : goal.returns-clause-after
 returns-clause-after c =
