@@ -5,7 +5,7 @@
 pub mod codes;
 pub mod fault;
 pub mod kind;
-mod layouts;
+pub mod layouts;
 pub mod record;
 pub mod tables;
 mod words;
