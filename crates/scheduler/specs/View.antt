@@ -7,11 +7,12 @@ use Rattle.pools.specs.Lines.{Choice}
 use Rattle.rosters.specs.declared.stamp.Status.{Status}
 use Rattle.pools.specs.declared.request.Request.{Request}
 use Rattle.stamps.specs.View.{table}
-use Rattle.scheduler.specs.declared.scheduler.Scheduler.TheInside.{Inside}
+use Rattle.scheduler.specs.declared.desk.Desk.{Desk}
+use Rattle.scheduler.specs.declared.scheduler.Scheduler.{Scheduler}
 use Rattle.scheduler.specs.declared.token.Dispatched.{Dispatched}
 use Rattle.scheduler.specs.Answers.{says}
 
-abbrev pub machine : {P R : Type 0} → (P → List (List Request)) → Inside P R → Machine
+abbrev pub machine : {P R : Type 0} → (P → List (List Request)) → Scheduler P R → Machine
 machine lists s =
     record {
       clock = s.desk.clock;
@@ -30,7 +31,7 @@ abbrev pub means : Dispatched Request → Reply
 means d = says (λ r. r) d
 
 -- what was accepted so far has not changed
-pub record Same (old new : Machine) : Type 0 where
+pub record Same (old new : Desk) : Type 0 where
   pub count : new.count ≡ old.count
   pub total : new.total ≡ old.total
 

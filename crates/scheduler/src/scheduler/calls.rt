@@ -3,7 +3,7 @@
 ghost use Rattle.std.specs.Prelude.{◌≡◌, ◌+◌, ◌^◌, ◌≤◌};
 ghost use Rattle.machine.specs.Calls.{joined};
 ghost use Rattle.scheduler.specs.Answers.{said};
-ghost use Rattle.scheduler.specs.View.{means};
+ghost use Rattle.scheduler.specs.View.{machine, means};
 
 use crate::calls::Calls;
 use crate::scheduler::Scheduler;
@@ -15,15 +15,15 @@ use pools::request::{Kind, Request};
 use pools::rule::BudgetRule;
 
 impl<P: Pool, R: BudgetRule> Calls for Scheduler<P, R> {
-    ghost state = { λ s. s };
+    ghost state = { λ s. machine P.lists s };
 
     ghost choice = { P.choice };
 
     ghost next = { R.next_budget };
 
-    // With the bound too, since whoever sees a machine alone does not know it.
+    // With the bound too, which the machine alone does not say.
     fn clock(&self) -> u64
-        ensures answer { result ≡ self.now.clock }
+        ensures answer { result ≡ (machine P.lists self.now).clock }
         ensures early { result ≤ 2 ^ 40 }
     {
         self.desk.clock
@@ -83,8 +83,8 @@ impl<P: Pool, R: BudgetRule> Scheduler<P, R> {
     /// An accepted request waits.
     fn join(&mut self, request: Request)
         requires size { 1 ≤ request.size }
-        requires room { self.old.total + request.size ≤ 2 ^ 40 }
-        ensures { self.new ≡ joined request self.old }
+        requires room { self.old.desk.total + request.size ≤ 2 ^ 40 }
+        ensures { machine P.lists self.new ≡ joined request (machine P.lists self.old) }
     {
         let _ = self.pool.put(request);
         self.desk.total += u64::from(request.size);

@@ -2,7 +2,7 @@
 
 ghost use Rattle.std.specs.Prelude.{◌≡◌, ◌^◌, ◌≤◌};
 ghost use Rattle.machine.specs.Machine.{begun, finished, next_of, picking, picking_reply, reacted, retired, sent, served_by, served_reply, subject};
-ghost use Rattle.scheduler.specs.View.{Same, heard, means};
+ghost use Rattle.scheduler.specs.View.{Same, heard, machine, means};
 ghost use Rattle.stamps.specs.Tables.{row};
 
 use crate::scheduler::Scheduler;
@@ -17,8 +17,8 @@ impl<P: Pool, R: BudgetRule> Scheduler<P, R> {
     /// The first step of an accepted call: the clock is set, and a hold that has run out ends the turn.
     pub(crate) fn begin(&mut self, time: u64)
         requires { time ≤ 2 ^ 40 }
-        ensures same { Same self.old self.new }
-        ensures after { self.new ≡ begun P.choice R.next_budget time self.old }
+        ensures same { Same self.old.desk self.new.desk }
+        ensures after { machine P.lists self.new ≡ begun P.choice R.next_budget time (machine P.lists self.old) }
     {
         self.desk.clock = time;
         match (self.desk.until, self.table.serving()) {
@@ -30,8 +30,8 @@ impl<P: Pool, R: BudgetRule> Scheduler<P, R> {
     /// The turn of application `k` is over: it gets its next budget, and is queued again if anything of
     /// it waits.
     fn retire(&mut self, k: u8, why: Reason)
-        ensures same { Same self.old self.new }
-        ensures after { self.new ≡ retired P.choice R.next_budget why k self.old }
+        ensures same { Same self.old.desk self.new.desk }
+        ensures after { machine P.lists self.new ≡ retired P.choice R.next_budget why k (machine P.lists self.old) }
     {
         let stamp = self.table.row(usize::from(k));
         let budget = self.rule.next(stamp.limit, stamp.budget, stamp.served, why);
@@ -45,7 +45,7 @@ impl<P: Pool, R: BudgetRule> Scheduler<P, R> {
 
     /// The request goes to the disk.
     fn send(&mut self, k: u8, request: Request)
-        ensures { self.new ≡ sent P.choice R.next_budget k request self.old }
+        ensures { machine P.lists self.new ≡ sent P.choice R.next_budget k request (machine P.lists self.old) }
     {
         let _ = self.table.send(request.size);
         let _ = self.pool.take(k, self.desk.head);
@@ -55,8 +55,8 @@ impl<P: Pool, R: BudgetRule> Scheduler<P, R> {
 
     /// Nobody serves: the application that is picked sends.
     fn pick(&mut self) -> Dispatched<Request>
-        ensures answer { means result ≡ picking_reply P.choice R.next_budget self.old }
-        ensures after { self.new ≡ picking P.choice R.next_budget self.old }
+        ensures answer { means result ≡ picking_reply P.choice R.next_budget (machine P.lists self.old) }
+        ensures after { machine P.lists self.new ≡ picking P.choice R.next_budget (machine P.lists self.old) }
     {
         let Some(k) = self.table.pick() else {
             return Dispatched::None;
@@ -70,8 +70,8 @@ impl<P: Pool, R: BudgetRule> Scheduler<P, R> {
 
     /// A dispatch while `k` serves.
     fn serve(&mut self, k: u8) -> Dispatched<Request>
-        ensures answer { means result ≡ served_reply P.choice R.next_budget k (next_of P.choice R.next_budget k self.old) self.old }
-        ensures after { self.new ≡ served_by P.choice R.next_budget k (next_of P.choice R.next_budget k self.old) self.old }
+        ensures answer { means result ≡ served_reply P.choice R.next_budget k (next_of P.choice R.next_budget k (machine P.lists self.old)) (machine P.lists self.old) }
+        ensures after { machine P.lists self.new ≡ served_by P.choice R.next_budget k (next_of P.choice R.next_budget k (machine P.lists self.old)) (machine P.lists self.old) }
     {
         let Some(request) = self.pool.show(k, self.desk.head) else {
             // The rules say 0 where no hold is set; a dispatch that comes here finds one.
@@ -92,7 +92,7 @@ impl<P: Pool, R: BudgetRule> Scheduler<P, R> {
     /// A completion while `k` serves: if nothing of it waits, the disk is held for it after a synchronous
     /// request, and its turn is over after an asynchronous one.
     fn finish(&mut self, k: u8, kind: Kind)
-        ensures { self.new ≡ finished P.choice R.next_budget k kind self.old }
+        ensures { machine P.lists self.new ≡ finished P.choice R.next_budget k kind (machine P.lists self.old) }
     {
         if self.pool.count(k) > 0 {
             return;
@@ -108,8 +108,8 @@ impl<P: Pool, R: BudgetRule> Scheduler<P, R> {
     /// What an event does to application `k`, by its status. A dispatch that finds it not serving finds
     /// nobody serving.
     pub(crate) fn react(&mut self, k: u8, event: Event) -> Dispatched<Request>
-        ensures answer { means result ≡ heard P.choice R.next_budget (row self.old.table k).status event k self.old }
-        ensures after { self.new ≡ reacted P.choice R.next_budget (row self.old.table k).status event k self.old }
+        ensures answer { means result ≡ heard P.choice R.next_budget (row (machine P.lists self.old).table k).status event k (machine P.lists self.old) }
+        ensures after { machine P.lists self.new ≡ reacted P.choice R.next_budget (row (machine P.lists self.old).table k).status event k (machine P.lists self.old) }
     {
         let stamp = self.table.row(usize::from(k));
         // One match and no closures: the twelve cases of status and event stand side by side, as the rules have them.
@@ -130,7 +130,7 @@ impl<P: Pool, R: BudgetRule> Scheduler<P, R> {
 
     /// Who sees a dispatch, a completion or a tick: the application that serves, or 0 where nobody does.
     pub(crate) fn subject(&self) -> u8
-        ensures { result ≡ subject self.now }
+        ensures { result ≡ subject (machine P.lists self.now) }
     {
         self.table.serving().map_or(0, |k| k as u8)
     }

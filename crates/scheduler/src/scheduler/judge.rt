@@ -3,6 +3,7 @@
 ghost use Rattle.std.specs.Prelude.{◌≡◌};
 ghost use Rattle.machine.specs.Calls.{arrival_refusal, completion_refusal, dispatch_refusal, tick_refusal};
 ghost use Rattle.scheduler.specs.Answers.{answered, request_of};
+ghost use Rattle.scheduler.specs.View.{machine};
 
 use crate::scheduler::Scheduler;
 use crate::token::Token;
@@ -17,7 +18,7 @@ const MOST: u64 = 1 << 40;
 impl<P: Pool, R: BudgetRule> Scheduler<P, R> {
     /// The request of an arrival, under the number that it gets if it is accepted.
     pub(crate) fn judge_arrival(&self, time: u64, request: Request) -> Result<(), Refusal>
-        ensures { result ≡ answered (arrival_refusal time request.application request.first request.size self.now) tt }
+        ensures { result ≡ answered (arrival_refusal time request.application request.first request.size (machine P.lists self.now)) tt }
     {
         self.judge_tick(time)?;
         if usize::from(request.application) >= self.table.len() {
@@ -39,7 +40,7 @@ impl<P: Pool, R: BudgetRule> Scheduler<P, R> {
     }
 
     pub(crate) fn judge_dispatch(&self, time: u64) -> Result<(), Refusal>
-        ensures { result ≡ answered (dispatch_refusal time self.now) tt }
+        ensures { result ≡ answered (dispatch_refusal time (machine P.lists self.now)) tt }
     {
         self.judge_tick(time)?;
         if self.desk.flight.is_some() {
@@ -49,7 +50,7 @@ impl<P: Pool, R: BudgetRule> Scheduler<P, R> {
     }
 
     pub(crate) fn judge_completion(&self, time: u64, token: &Token) -> Result<(), Refusal>
-        ensures { result ≡ answered (completion_refusal time (request_of token.now) self.now) tt }
+        ensures { result ≡ answered (completion_refusal time (request_of token.now) (machine P.lists self.now)) tt }
     {
         self.judge_tick(time)?;
         match self.desk.flight {
@@ -60,7 +61,7 @@ impl<P: Pool, R: BudgetRule> Scheduler<P, R> {
 
     /// A tick has nothing but its time, by which each call is judged first.
     pub(crate) fn judge_tick(&self, time: u64) -> Result<(), Refusal>
-        ensures { result ≡ answered (tick_refusal time self.now) tt }
+        ensures { result ≡ answered (tick_refusal time (machine P.lists self.now)) tt }
     {
         if !(self.desk.clock..=MOST).contains(&time) {
             return Err(Refusal::Time);

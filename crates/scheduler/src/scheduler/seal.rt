@@ -5,6 +5,7 @@ ghost use Rattle.histories.specs.Promises.{Promises};
 ghost use Rattle.machine.specs.Machine.{beginning};
 ghost use Rattle.rosters.specs.Rosters.{line_up};
 ghost use Rattle.scheduler.specs.Sealing.{Waiting, with_first};
+ghost use Rattle.scheduler.specs.View.{machine};
 ghost use Rattle.stamps.specs.View.{table};
 
 use crate::desk::Desk;
@@ -17,7 +18,7 @@ use stamps::table::StampTable;
 /// A scheduler for the roster's applications, with an empty pool. It uses the roster up, and cannot be
 /// refused. Its contract has the promises: whatever is called from here on, they hold of the history.
 pub fn seal<P: Pool, R: BudgetRule>(roster: Roster, mut pool: P, rule: R) -> Scheduler<P, R>
-    ensures state { result ≡ beginning R.first_budget (line_up roster) }
+    ensures state { machine P.lists result ≡ beginning R.first_budget (line_up roster) }
     ensures promises { Promises P.choice R.first_budget R.next_budget (line_up roster) }
 {
     let desk = Desk::new(roster.hold());
