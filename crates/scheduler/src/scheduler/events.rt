@@ -112,20 +112,31 @@ impl<P: Pool, R: BudgetRule> Scheduler<P, R> {
         ensures after { machine P.lists self.new ≡ reacted P.choice R.next_budget (row (machine P.lists self.old).table k).status event k (machine P.lists self.old) }
     {
         let stamp = self.table.row(usize::from(k));
-        // One match and no closures: the twelve cases of status and event stand side by side, as the rules have them.
+        // One match, and none of the twelve cases of status and event taken together with another or left to a
+        // wildcard: they stand side by side, as the rules have them.
         match (stamp.status, event) {
             (Status::Idle, Event::Arrival) => {
                 let _ = self.table.wake(usize::from(k));
+                Dispatched::None
             }
-            (Status::Serving, Event::Arrival) => self.desk.until = None,
-            (Status::Serving, Event::Completion(kind)) => self.finish(k, kind),
-            (Status::Serving, Event::Dispatch) => return self.serve(k),
-            (Status::Idle | Status::Queued, Event::Dispatch) => return self.pick(),
-            (Status::Queued, Event::Arrival)
-            | (Status::Idle | Status::Queued, Event::Completion(_))
-            | (_, Event::Tick) => {}
+            (Status::Queued, Event::Arrival) => Dispatched::None,
+            (Status::Serving, Event::Arrival) => {
+                self.desk.until = None;
+                Dispatched::None
+            }
+            (Status::Idle, Event::Dispatch) => self.pick(),
+            (Status::Queued, Event::Dispatch) => self.pick(),
+            (Status::Serving, Event::Dispatch) => self.serve(k),
+            (Status::Idle, Event::Completion(_)) => Dispatched::None,
+            (Status::Queued, Event::Completion(_)) => Dispatched::None,
+            (Status::Serving, Event::Completion(kind)) => {
+                self.finish(k, kind);
+                Dispatched::None
+            }
+            (Status::Idle, Event::Tick) => Dispatched::None,
+            (Status::Queued, Event::Tick) => Dispatched::None,
+            (Status::Serving, Event::Tick) => Dispatched::None,
         }
-        Dispatched::None
     }
 
     /// Who sees a dispatch, a completion or a tick: the application that serves, or 0 where nobody does.
