@@ -5,3 +5,4 @@
 pub mod command;
 pub mod script;
 pub mod session;
+pub mod turn;

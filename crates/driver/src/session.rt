@@ -4,9 +4,10 @@ ghost use Rattle.std.specs.Prelude.{◌≡◌};
 ghost use Rattle.driver.specs.Runs.{Holding, acted, none_held, outcome};
 ghost use Rattle.driver.specs.declared.command.Command.TheVariants as C;
 
-use crate::command::{Answer, Command, Outcome, Refused};
+use crate::command::{Command, Outcome};
+use crate::turn::{act, finish};
 use scheduler::calls::Calls;
-use scheduler::token::{Dispatched, Returned, Token};
+use scheduler::token::Token;
 use std::marker::Model;
 
 /// A scheduler and the token that is held. Contracts see the scheduler's machine. The token is that of
@@ -58,57 +59,7 @@ impl<S: Calls> Session<S> {
         ensures outcome { result ≡ outcome S.Calls.choice S.Calls.next command self.old }
         ensures after { self.new ≡ acted S.Calls.choice S.Calls.next command self.old }
     {
-        match command {
-            Command::Arrival {
-                time,
-                application,
-                first,
-                size,
-                kind,
-            } => {
-                let number = self
-                    .scheduler
-                    .arrival(time, application, first, size, kind)?;
-                Ok(Answer::Accepted(number))
-            }
-            Command::Dispatch(time) => self.dispatch(time),
-            Command::Completion(time) => self.complete(time),
-            Command::Tick(time) => {
-                self.scheduler.tick(time)?;
-                Ok(Answer::Ticked)
-            }
-        }
-    }
-
-    /// A token that comes with the answer is held from now on.
-    fn dispatch(&mut self, time: u64) -> Outcome
-        ensures outcome { result ≡ outcome S.Calls.choice S.Calls.next (C.Dispatch time) self.old }
-        ensures after { self.new ≡ acted S.Calls.choice S.Calls.next (C.Dispatch time) self.old }
-    {
-        match self.scheduler.dispatch(time)? {
-            Dispatched::Send(token) => {
-                let request = token.request();
-                keep(&mut self.token, token);
-                Ok(Answer::Sent(request))
-            }
-            Dispatched::Hold { application, until } => Ok(Answer::Held { application, until }),
-            Dispatched::None => Ok(Answer::Nothing),
-        }
-    }
-
-    /// Where no token is held, no call is made.
-    fn complete(&mut self, time: u64) -> Outcome
-        ensures outcome { result ≡ outcome S.Calls.choice S.Calls.next (C.Completion time) self.old }
-        ensures after { self.new ≡ acted S.Calls.choice S.Calls.next (C.Completion time) self.old }
-    {
-        let token = self.token.take().ok_or(Refused::NoToken)?;
-        match self.scheduler.completion(time, token) {
-            Ok(number) => Ok(Answer::Done(number)),
-            Err(Returned { refusal, token }) => {
-                keep(&mut self.token, token);
-                Err(refusal.into())
-            }
-        }
+        act(&mut self.scheduler, &mut self.token, command)
     }
 
     /// A token that is left is completed, at the time that it is. Such a completion is never refused.
@@ -119,25 +70,7 @@ impl<S: Calls> Session<S> {
             mut scheduler,
             token,
         } = self;
-        let Some(token) = token else {
-            return scheduler;
-        };
-        let clock = scheduler.clock();
-        match scheduler.completion(clock, token) {
-            Ok(_) => scheduler,
-            // the clock is no time before itself, and the token is that of the request in flight
-            Err(_) => unreachable(),
-        }
-    }
-}
-
-/// The token is held from now on, where none was.
-fn keep(held: &mut Option<Token>, token: Token)
-    requires { held.old ≡ None }
-    ensures { held.new ≡ Some token }
-{
-    match held.replace(token) {
-        None => {}
-        Some(_) => unreachable(),
+        finish(&mut scheduler, token);
+        scheduler
     }
 }
